@@ -1,0 +1,6 @@
+pub mod Results
+pub mod Labels
+pub mod Sheets
+pub mod Taking
+pub mod Laying
+pub mod Laws

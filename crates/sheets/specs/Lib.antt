@@ -1,0 +1,9 @@
+pub mod Faults
+pub mod Labels
+pub mod Sheets
+pub mod Walks
+pub mod Taking
+pub mod Books
+pub mod Laying
+pub mod Assembling
+pub mod Laws

@@ -1,0 +1,4 @@
+pub mod Letters
+pub mod Faults
+pub mod Words
+pub mod Forms
