@@ -63,9 +63,9 @@ module _ (xs : List ℕ) (i : ℕ) where
         let n = wordLength (drop (i + 1) xs) in
         let long : suc n ≡ end - i = omega arith in
         let bytes : getD xs i 0 ∷ take n (drop (i + 1) xs) ≡ take (end - i) (drop i xs) =
-              ap (λ l. take (suc n) l) (sym (drop-more xs i 0 h)) ∙ ap (λ k. take k (drop i xs)) long in
+        ap (λ l. take (suc n) l) (sym (drop-more xs i 0 h)) ∙ ap (λ k. take k (drop i xs)) long in
         let others : fields n (i + 1) (drop (i + 1) xs) ≡ fieldsFrom xs end =
-              passed n (i + 1) (drop (i + 1) xs) ∙ ap (λ l. fields 0 (i + 1 + n) l) (drop-drop n (i + 1) xs) ∙ ap (λ k. fieldsFrom xs k) (sym is) in
+        passed n (i + 1) (drop (i + 1) xs) ∙ ap (λ l. fields 0 (i + 1 + n) l) (drop-drop n (i + 1) xs) ∙ ap (λ k. fieldsFrom xs k) (sym is) in
         at-drop-more (fields 0 i) xs i 0 h ∙ rw (s, e, f) (λ j. word (getD xs i 0) (bytes j) i ∷ others j)
 
     pub name-here : letter (getD xs i 0) ≡ true → fieldsFrom xs i ≡ name (take (end - i) (drop i xs)) i ∷ fieldsFrom xs end

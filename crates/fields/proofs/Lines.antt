@@ -4,11 +4,10 @@ use mathlib.Core.Path.{_≡_, refl, sym, _∙_, ap}
 use mathlib.Core.Bool.{true, false, cond}
 use mathlib.Core.List.{List, [], _∷_}
 use lib.Dec.{eqb}
-use lib.ListN.{length, getD, take, drop}
-use native.Mathlib.Nat.{sub-zero}
+use lib.ListN.{length, getD, take, drop, length-drop}
 use native.Mathlib.Numerals.{add-one}
 use native.Mathlib.Omega.{arith}
-use Rattle.std.proofs.shelf.Lists.{at-drop-more, at-drop-all, take-rest, drop-all}
+use Rattle.std.proofs.shelf.Lists.{at-drop-more, at-drop-all}
 use Rattle.fields.specs.Lines.{prepend, linesOf, lineLength}
 
 module _ (xs : List ℕ) (i : ℕ) where
@@ -36,20 +35,16 @@ pub first : (xs : List ℕ) → 0 < length xs → First xs
 first [] h = absurd (omega arith)
 first (x ∷ xs) h =
     elim (eqb x 10) as (λ t. cond t ([] ∷ linesOf xs) (prepend x (linesOf xs)) ≡ take (cond t 0 (suc (lineLength xs))) (x ∷ xs) ∷ linesOf (drop (suc (cond t 0 (suc (lineLength xs)))) (x ∷ xs))) [
-      true ↦ refl
-    | false ↦ glued x xs (λ k. first xs k)
+      | true ↦ refl
+      | false ↦ glued x xs (λ k. first xs k)
     ]
 
--- the two parts, as the code cuts them at n
-module _ (xs : List ℕ) (n : ℕ) (is : n ≡ lineLength xs) where
-  pub front : take (n - 0) (drop 0 xs) ≡ take (lineLength xs) xs
-  front = rw (is, sub-zero)
+-- a line and the text behind it, cut at n
+module _ (xs : List ℕ) (n : ℕ) (is : n ≡ lineLength xs) (some : 0 < length xs) where
+  pub split : (line rest : List ℕ) → line ≡ take n xs → rest ≡ drop (n + 1) xs → (line ≡ take (lineLength xs) xs) × (rest ≡ drop (suc (lineLength xs)) xs)
+  split line rest e f = (rw (← is) e, rw (← is, ← add-one) f)
 
-  pub behind : take (length xs - (n + 1)) (drop (n + 1) xs) ≡ drop (suc (lineLength xs)) xs
-  behind = rw (take-rest xs (n + 1), is, add-one)
-
-  pub none-behind : length xs ≤ n → take (length xs - n) (drop n xs) ≡ drop (suc (lineLength xs)) xs
-  none-behind h = take-rest xs n ∙ drop-all n xs h ∙ sym (drop-all (suc (lineLength xs)) xs (omega arith))
-
-  pub leads : (line rest : List ℕ) → 0 < length xs → line ≡ take (lineLength xs) xs → rest ≡ drop (suc (lineLength xs)) xs → linesOf xs ≡ line ∷ linesOf rest
-  leads line rest h e f = first xs h ∙ rw (← e, ← f)
+  pub leads : (line rest : List ℕ) → line ≡ take n xs → rest ≡ drop (n + 1) xs → (linesOf xs ≡ line ∷ linesOf rest) × (length rest < length xs)
+  leads line rest e f =
+      let s = split line rest e f in
+      (first xs some ∙ rw (← s .0, ← s .1), rw (f, length-drop) (omega arith))

@@ -15,8 +15,11 @@ impl FieldFault {
     pub fn report(self) -> Report
         ensures { λ r. ⌜ r ≡ reported self ⌝ }
     {
-        match self {
-            FieldFault::BadByte { line } => Report { number: 6, line, layer: 1 },
+        let FieldFault::BadByte { line } = self;
+        Report {
+            number: 6,
+            line,
+            layer: 1,
         }
     }
 }

@@ -1,7 +1,7 @@
 //! Lines of a text.
 ghost use mathlib.Core.Path.{_≡_};
-ghost use Prim.Native.Nat.{_≤_};
-ghost use lib.ListN.{length};
+ghost use Prim.Native.Nat.{_+_, _≤_};
+ghost use lib.ListN.{length, take, drop};
 ghost use Rattle.fields.specs.Fields.{plain, checked};
 ghost use Rattle.fields.specs.Lines.{lineLength, Split, Leads};
 use crate::fault::FieldFault;
@@ -18,6 +18,20 @@ fn line_length(text: &[u8]) -> usize
     n
 }
 
+/// The first `n` bytes, and those behind the byte after them.
+fn cut(text: &[u8], n: usize) -> (&[u8], &[u8])
+    requires { ⌜ n ≤ length (now text) ⌝ }
+    ensures front { λ r. ⌜ now (r .0) ≡ take n (now (text .entry)) ⌝ }
+    ensures behind { λ r. ⌜ now (r .1) ≡ drop (n + 1) (now (text .entry)) ⌝ }
+{
+    let (front, rest) = text.split_at(n);
+    if n < text.len() {
+        (front, text.split_at(n + 1).1)
+    } else {
+        (front, rest)
+    }
+}
+
 /// The first line of a text, and the text behind it; none where the text is empty.
 pub fn first_line(text: &[u8]) -> Option<(&[u8], &[u8])>
     ensures split { λ r. ⌜ Split (now (text .entry)) r ⌝ }
@@ -27,12 +41,7 @@ pub fn first_line(text: &[u8]) -> Option<(&[u8], &[u8])>
         return None;
     }
     let n = line_length(text);
-    let line = &text[0..n];
-    if n < text.len() {
-        Some((line, &text[n + 1..text.len()]))
-    } else {
-        Some((line, &text[n..text.len()]))
-    }
+    Some(cut(text, n))
 }
 
 /// Whether a byte may stand in a line.

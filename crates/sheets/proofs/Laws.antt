@@ -87,7 +87,7 @@ takes-one : (room : ℕ) (held : List Label) (p : Placed) (rest : Sheet) (r : Re
 takes-one room held p rest (Err e) is ih = record { grown = (labelsOf (placed p rest), refl); fits = λ h. h; distinct = λ d. d }
 takes-one room held p rest (Ok more) is ih =
     let joined : more ++ labelsOf rest ≡ held ++ labelsOf (placed p rest) =
-          ap (λ l. l ++ labelsOf rest) (adds room held more p (p .label) is) ∙ append-assoc held (labelled (p .label) (p .address)) (labelsOf rest) in
+    ap (λ l. l ++ labelsOf rest) (adds room held more p (p .label) is) ∙ append-assoc held (labelled (p .label) (p .address)) (labelsOf rest) in
     record {
       grown = regrown held more _ (placed p rest) rest _ joined (ih more .grown);
       fits = λ h. ih more .fits (fits-one room held more p (p .label) is h);
@@ -113,7 +113,7 @@ from k low high [] = record { count = omega arith; down = omega arith; up = omeg
 from k low high (c ∷ cs) =
     let f = from (suc k) (min low (c .address)) (max high (c .address)) cs in
     let one : summaryFrom (suc k, low, high) (c ∷ cs) ≡ summaryFrom (suc (suc k), min low (c .address), max high (c .address)) cs =
-          rw (ne-eqb (suc k) 0 (λ e. omega arith), add-one) in
+    rw (ne-eqb (suc k) 0 (λ e. omega arith), add-one) in
     subst (λ (t : ℕ × ℕ × ℕ). From k low high (c ∷ cs) t) (sym one) (record {
       count = omega (arith, f .count);
       down = omega (arith, f .down);

@@ -19,7 +19,11 @@ use std::alloc::AllocError;
 use std::alloc::Global;
 
 /// Takes the names of a text into an empty book over these records, and lays the text into a memory.
-fn assemble_over<M: Memory>(records: &mut [Label], text: &[u8], memory: &mut M) -> Result<(usize, u16, u16), LayingFault>
+fn assemble_over<M: Memory>(
+    records: &mut [Label],
+    text: &[u8],
+    memory: &mut M,
+) -> Result<(usize, u16, u16), LayingFault>
     ensures answer { λ r. ⌜ r ≡ answered (assembling (length (now (records .entry))) (M·Memory .contents (now (memory .entry))) (now (text .entry))) ⌝ }
     ensures memory { λ r. ⌜ M·Memory .contents (now (memory .exit)) ≡ memoryAfter (assembling (length (now (records .entry))) (M·Memory .contents (now (memory .entry))) (now (text .entry))) (M·Memory .contents (now (memory .entry))) ⌝ }
 {
@@ -30,12 +34,24 @@ fn assemble_over<M: Memory>(records: &mut [Label], text: &[u8], memory: &mut M) 
 
 /// Takes the names of a text into an empty book with room for that many labels, and lays the text into a memory. Answers
 /// how many words, the lowest address and the highest. Want of memory for the book changes nothing.
-pub fn assemble<M: Memory>(heap: Global, room: usize, text: &[u8], memory: &mut M) -> Result<Result<(usize, u16, u16), LayingFault>, AllocError>
+pub fn assemble<M: Memory>(
+    heap: Global,
+    room: usize,
+    text: &[u8],
+    memory: &mut M,
+) -> Result<Result<(usize, u16, u16), LayingFault>, AllocError>
     ensures answer { λ r. ⌜ made r (λ laid. laid ≡ answered (assembling room (M·Memory .contents (now (memory .entry))) (now (text .entry)))) ⌝ }
     ensures memory { λ r. ⌜ Cases r (λ _. M·Memory .contents (now (memory .exit)) ≡ memoryAfter (assembling room (M·Memory .contents (now (memory .entry))) (now (text .entry))) (M·Memory .contents (now (memory .entry)))) (λ _. M·Memory .contents (now (memory .exit)) ≡ M·Memory .contents (now (memory .entry))) ⌝ }
     ensures law { λ r. ⌜ made r (λ _. (cs : List Cell) → assembling room (M·Memory .contents (now (memory .entry))) (now (text .entry)) ≡ Ok cs → Lays (M·Memory .contents (now (memory .entry))) cs (M·Memory .contents (now (memory .exit)))) ⌝ }
 {
-    let blank = Label { name: Name { first: b' ', second: b' ', third: b' ' }, address: 0 };
+    let blank = Label {
+        name: Name {
+            first: b' ',
+            second: b' ',
+            third: b' ',
+        },
+        address: 0,
+    };
     let mut records = vec![in heap; blank; room]?;
     Ok(assemble_over(&mut records, text, memory))
 }

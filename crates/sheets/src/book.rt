@@ -6,6 +6,7 @@ use crate::label::Label;
 
 mod closed;
 mod open;
+mod taking;
 
 /// A book that takes names into records of the caller.
 #[derive(Drop)]

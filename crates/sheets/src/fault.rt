@@ -40,14 +40,19 @@ impl SheetFault {
     pub fn report(self) -> Report
         ensures { λ r. ⌜ r ≡ reported self ⌝ }
     {
-        match self {
-            SheetFault::Statement(fault) => fault.report(),
-            SheetFault::TextTooLong => Report { number: 5, line: 0, layer: 3 },
-            SheetFault::LabelTaken { line } => Report { number: 9, line, layer: 3 },
-            SheetFault::BookFull { line } => Report { number: 10, line, layer: 3 },
-            SheetFault::PastMemory { line } => Report { number: 11, line, layer: 3 },
-            SheetFault::LabelUnknown { line } => Report { number: 12, line, layer: 3 },
-            SheetFault::NoEnd { line } => Report { number: 13, line, layer: 3 },
+        let (number, line) = match self {
+            SheetFault::Statement(fault) => return fault.report(),
+            SheetFault::TextTooLong => (5, 0),
+            SheetFault::LabelTaken { line } => (9, line),
+            SheetFault::BookFull { line } => (10, line),
+            SheetFault::PastMemory { line } => (11, line),
+            SheetFault::LabelUnknown { line } => (12, line),
+            SheetFault::NoEnd { line } => (13, line),
+        };
+        Report {
+            number,
+            line,
+            layer: 3,
         }
     }
 }

@@ -46,7 +46,11 @@ fn count_word(laid: (usize, u16, u16), address: u16) -> (usize, u16, u16)
 }
 
 /// Stores the words of a text that can be laid.
-fn store_sheet<M: Memory>(book: &[Label], text: &[u8], memory: &mut M) -> Result<(usize, u16, u16), SheetFault>
+fn store_sheet<M: Memory>(
+    book: &[Label],
+    text: &[u8],
+    memory: &mut M,
+) -> Result<(usize, u16, u16), SheetFault>
     requires { ⌜ checked (cellsOf (now book) (sheetOf (now text))) ≡ Ok tt ⌝ }
     ensures answer { λ r. ⌜ r ≡ Ok (summary (cells (cellsOf (now (book .entry)) (sheetOf (now (text .entry)))))) ⌝ }
     ensures memory { λ r. ⌜ M·Memory .contents (now (memory .exit)) ≡ storedAll (M·Memory .contents (now (memory .entry))) (cells (cellsOf (now (book .entry)) (sheetOf (now (text .entry))))) ⌝ }
@@ -70,7 +74,11 @@ fn store_sheet<M: Memory>(book: &[Label], text: &[u8], memory: &mut M) -> Result
 }
 
 /// Checks a whole text, and then lays it.
-pub(crate) fn lay_sheet<M: Memory>(book: &[Label], text: &[u8], memory: &mut M) -> Result<(usize, u16, u16), LayingFault>
+pub(crate) fn lay_sheet<M: Memory>(
+    book: &[Label],
+    text: &[u8],
+    memory: &mut M,
+) -> Result<(usize, u16, u16), LayingFault>
     ensures answer { λ r. ⌜ r ≡ answered (laying (now (book .entry)) (M·Memory .contents (now (memory .entry))) (now (text .entry))) ⌝ }
     ensures memory { λ r. ⌜ M·Memory .contents (now (memory .exit)) ≡ memoryAfter (laying (now (book .entry)) (M·Memory .contents (now (memory .entry))) (now (text .entry))) (M·Memory .contents (now (memory .entry))) ⌝ }
 {

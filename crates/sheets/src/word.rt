@@ -37,7 +37,11 @@ fn code_word(book: &[Label], line: u16, code: Code) -> Result<u16, SheetFault>
 {
     match code {
         Code::Word(word) => Ok(word),
-        Code::Reference { operation, operand, indirect } => {
+        Code::Reference {
+            operation,
+            operand,
+            indirect,
+        } => {
             let address = operand_address(book, line, operand)?;
             Ok(encode(operation, address, indirect))
         }
@@ -52,5 +56,8 @@ pub(crate) fn cell_of(book: &[Label], placed: Placed) -> Result<Cell, SheetFault
         return Err(SheetFault::PastMemory { line: placed.line });
     }
     let word = code_word(book, placed.line, placed.code)?;
-    Ok(Cell { address: placed.address as u16, word })
+    Ok(Cell {
+        address: placed.address as u16,
+        word,
+    })
 }

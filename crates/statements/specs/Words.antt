@@ -26,10 +26,10 @@ labelName w =
     cond (not (letter (getD w 0 0))) None
     (cond (eqb (length w) 1) (Some (record { first = getD w 0 0; second = 32; third = 32 }))
     (cond (eqb (length w) 2)
-        (cond (letterOrDigit (getD w 1 0)) (Some (record { first = getD w 0 0; second = getD w 1 0; third = 32 })) None)
+    (cond (letterOrDigit (getD w 1 0)) (Some (record { first = getD w 0 0; second = getD w 1 0; third = 32 })) None)
     (cond (eqb (length w) 3)
-        (cond (letterOrDigit (getD w 1 0) && letterOrDigit (getD w 2 0))
-            (Some (record { first = getD w 0 0; second = getD w 1 0; third = getD w 2 0 })) None)
+    (cond (letterOrDigit (getD w 1 0) && letterOrDigit (getD w 2 0))
+    (Some (record { first = getD w 0 0; second = getD w 1 0; third = getD w 2 0 })) None)
     None)))
 
 -- the word has these three letters

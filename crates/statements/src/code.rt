@@ -19,7 +19,11 @@ use fields::Cursor;
 use fields::number::hexadecimal;
 
 /// An operand and perhaps I.
-fn read_reference(operation: Operation, mut fields: Cursor, line: u16) -> Result<Code, StatementFault>
+fn read_reference(
+    operation: Operation,
+    mut fields: Cursor,
+    line: u16,
+) -> Result<Code, StatementFault>
     ensures { λ r. ⌜ r ≡ referenceOf line operation (left (fields .entry)) ⌝ }
 {
     let Some(token) = fields.next() else {
@@ -27,7 +31,11 @@ fn read_reference(operation: Operation, mut fields: Cursor, line: u16) -> Result
     };
     let indirect = read_indirect(fields, line)?;
     let operand = read_operand(token, line)?;
-    Ok(Code::Reference { operation, operand, indirect })
+    Ok(Code::Reference {
+        operation,
+        operand,
+        indirect,
+    })
 }
 
 /// The number of DEC.

@@ -22,10 +22,15 @@ impl StatementFault {
     pub fn report(self) -> Report
         ensures { λ r. ⌜ r ≡ reported self ⌝ }
     {
-        match self {
-            StatementFault::Field(fault) => fault.report(),
-            StatementFault::NoForm { line } => Report { number: 7, line, layer: 2 },
-            StatementFault::OutOfRange { line } => Report { number: 8, line, layer: 2 },
+        let (number, line) = match self {
+            StatementFault::Field(fault) => return fault.report(),
+            StatementFault::NoForm { line } => (7, line),
+            StatementFault::OutOfRange { line } => (8, line),
+        };
+        Report {
+            number,
+            line,
+            layer: 2,
         }
     }
 }

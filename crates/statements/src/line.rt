@@ -53,11 +53,19 @@ fn read_labelled(label: &[u8], mut fields: Cursor, line: u16) -> Result<Statemen
         return Err(StatementFault::NoForm { line });
     };
     let code = read_code(word, fields, line)?;
-    Ok(Statement::Lays { label: Some(name), code })
+    Ok(Statement::Lays {
+        label: Some(name),
+        code,
+    })
 }
 
 /// A statement that begins with a word, which is a label if a comma follows directly.
-fn read_named(word: &[u8], at: usize, fields: Cursor, line: u16) -> Result<Statement, StatementFault>
+fn read_named(
+    word: &[u8],
+    at: usize,
+    fields: Cursor,
+    line: u16,
+) -> Result<Statement, StatementFault>
     ensures { λ r. ⌜ r ≡ namedOf line (now (word .entry)) (left (fields .entry)) (behindComma line (at + length (now (word .entry))) (left (fields .entry))) ⌝ }
 {
     let mut behind = fields;

@@ -30,7 +30,11 @@ pub enum Operand {
 /// What a statement lays: an instruction that points into memory, or a word as it stands.
 #[derive(Clone, Copy, Debug)]
 pub enum Code {
-    Reference { operation: Operation, operand: Operand, indirect: bool },
+    Reference {
+        operation: Operation,
+        operand: Operand,
+        indirect: bool,
+    },
     Word(u16),
 }
 

@@ -28,10 +28,22 @@ pub(crate) fn label_name(word: &[u8]) -> Option<Name>
         return None;
     }
     match rest {
-        [] => Some(Name { first: *first, second: b' ', third: b' ' }),
-        [second] if is_letter_or_digit(*second) => Some(Name { first: *first, second: *second, third: b' ' }),
+        [] => Some(Name {
+            first: *first,
+            second: b' ',
+            third: b' ',
+        }),
+        [second] if is_letter_or_digit(*second) => Some(Name {
+            first: *first,
+            second: *second,
+            third: b' ',
+        }),
         [second, third] if is_letter_or_digit(*second) && is_letter_or_digit(*third) => {
-            Some(Name { first: *first, second: *second, third: *third })
+            Some(Name {
+                first: *first,
+                second: *second,
+                third: *third,
+            })
         }
         _ => None,
     }

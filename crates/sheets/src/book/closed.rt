@@ -13,7 +13,11 @@ use memory::Memory;
 
 impl ClosedBook<'_> {
     /// Lays a text into a memory; the book is spent. Answers how many words, the lowest address and the highest.
-    pub fn lay<M: Memory>(self, text: &[u8], memory: &mut M) -> Result<(usize, u16, u16), LayingFault>
+    pub fn lay<M: Memory>(
+        self,
+        text: &[u8],
+        memory: &mut M,
+    ) -> Result<(usize, u16, u16), LayingFault>
         ensures answer { λ r. ⌜ r ≡ answered (laying (closedLabels (self .entry)) (M·Memory .contents (now (memory .entry))) (now (text .entry))) ⌝ }
         ensures memory { λ r. ⌜ M·Memory .contents (now (memory .exit)) ≡ memoryAfter (laying (closedLabels (self .entry)) (M·Memory .contents (now (memory .entry))) (now (text .entry))) (M·Memory .contents (now (memory .entry))) ⌝ }
         ensures law { λ r. ⌜ ((cs : List Cell) → laying (closedLabels (self .entry)) (M·Memory .contents (now (memory .entry))) (now (text .entry)) ≡ Ok cs → Lays (M·Memory .contents (now (memory .entry))) cs (M·Memory .contents (now (memory .exit)))) ⌝ }

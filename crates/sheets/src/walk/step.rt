@@ -23,7 +23,11 @@ impl<'a> Walk<'a> {
         ensures ahead { λ r. ⌜ ahead r ≡ readFrom 0 0 (linesOf (now (text .entry))) ⌝ }
         ensures lines { λ r. ⌜ r .lines ≡ 0 ⌝ }
     {
-        Walk { rest: text, lines: 0, address: 0 }
+        Walk {
+            rest: text,
+            lines: 0,
+            address: 0,
+        }
     }
 
     /// One line more.
@@ -40,20 +44,41 @@ impl<'a> Walk<'a> {
         let address = self.address;
         match statement {
             Statement::Blank => {
-                *self = Walk { rest, lines, address };
+                *self = Walk {
+                    rest,
+                    lines,
+                    address,
+                };
                 Ok(Step::Nothing)
             }
             Statement::Origin(origin) => {
-                *self = Walk { rest, lines, address: u32::from(origin) };
+                *self = Walk {
+                    rest,
+                    lines,
+                    address: u32::from(origin),
+                };
                 Ok(Step::Nothing)
             }
             Statement::End => {
-                *self = Walk { rest, lines, address };
+                *self = Walk {
+                    rest,
+                    lines,
+                    address,
+                };
                 Ok(Step::End)
             }
             Statement::Lays { label, code } => {
-                *self = Walk { rest, lines, address: address + 1 };
-                Ok(Step::Lays(Placed { line: lines, address, label, code }))
+                *self = Walk {
+                    rest,
+                    lines,
+                    address: address + 1,
+                };
+                Ok(Step::Lays(Placed {
+                    line: lines,
+                    address,
+                    label,
+                    code,
+                }))
             }
         }
     }

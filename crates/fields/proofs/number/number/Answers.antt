@@ -25,9 +25,10 @@ pub add-value : need.add-value
 add-value c = omega (arith, fits c)
 
 pub loop-b-again : need.loop-b-again
-loop-b-again c =
-    (value-below (c .loop-b .value) (c .args .radix) (c .in-Continue-d .d) (c .loop-b .b-index) (c .loop-b .inv .0) (omega arith) (small c),
-     c .loop-b .inv .1 ∙ value-more (c .args .word .now) (c .args .radix) (c .loop-b .value) (c .loop-b .b-index) (c .in-Continue-d .d) (omega arith) (c .in-Continue-d .ensures tt))
+loop-b-again c = (
+  value-below (c .loop-b .value) (c .args .radix) (c .in-Continue-d .d) (c .loop-b .b-index) (c .loop-b .inv .0) (omega arith) (small c),
+  c .loop-b .inv .1 ∙ value-more (c .args .word .now) (c .args .radix) (c .loop-b .value) (c .loop-b .b-index) (c .in-Continue-d .d) (omega arith) (c .in-Continue-d .ensures tt),
+)
 
 pub returns : need.returns
 returns c =

@@ -14,7 +14,7 @@ Inv-loop-placed g l =
     (checked (cellsOf (l .book) (ahead (l .walk))) ≡ Ok tt)
     × (summary (cells (cellsOf (l .book) (sheetOf (l .text)))) ≡ summaryFrom (l .laid) (cells (cellsOf (l .book) (ahead (l .walk)))))
     × (storedAll (g .M·Memory .contents (l .entry .memory)) (cells (cellsOf (l .book) (sheetOf (l .text))))
-        ≡ storedAll (g .M·Memory .contents (l .memory)) (cells (cellsOf (l .book) (ahead (l .walk)))))
+    ≡ storedAll (g .M·Memory .contents (l .memory)) (cells (cellsOf (l .book) (ahead (l .walk)))))
     × (l .laid .0 ≤ l .walk .lines)
 
 abbrev pub μ-loop-placed : given.MeasureT-loop-placed

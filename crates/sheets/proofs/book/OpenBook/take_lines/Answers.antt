@@ -27,12 +27,13 @@ loop-placed-again c =
     let records = c .loop-placed .self .records .now in
     let behind = ahead (c .step .last .self) in
     let leads : ahead (c .loop-placed .walk) ≡ placed (c .in-Lays .placed) behind = search needs in
-    let t = more (length first) first records (c .loop-placed .n) (c .in-Lays .placed) behind (c .loop-placed .inv .1) (c .loop-placed .inv .2) (c .enter .last .self .records .now) (c .in-Continue-n .n) (c .in-Continue-n .ensures tt .answer) (c .in-Continue-n .ensures tt .records) in
-    (c .loop-placed .inv .0 ∙ ap (taking (length first) _) leads ∙ t .0,
-     t .1,
-     c .in-Continue-n .ensures tt .sized ∙ c .loop-placed .inv .2,
-     c .in-Continue-n .ensures tt .within .1,
-     omega (arith, c .in-Continue-n .ensures tt .within .0, c .in-Continue-n .ensures tt .count),
-     c .in-Continue-n .ensures tt .labels ∙ c .loop-placed .inv .5,
-     c .in-Continue-n .ensures tt .count ∙ c .loop-placed .inv .6,
-     c .in-Continue-n .ensures tt .lent ∙ c .loop-placed .inv .7)
+    let t = more (length first) first records (c .loop-placed .n) (c .in-Lays .placed) behind (c .loop-placed .inv .1) (c .loop-placed .inv .2) (c .enter .last .self .records .now) (c .in-Continue-n .n) (c .in-Continue-n .ensures tt .answer) (c .in-Continue-n .ensures tt .records) in (
+      c .loop-placed .inv .0 ∙ ap (taking (length first) _) leads ∙ t .0,
+      t .1,
+      c .in-Continue-n .ensures tt .sized ∙ c .loop-placed .inv .2,
+      c .in-Continue-n .ensures tt .within .1,
+      omega (arith, c .in-Continue-n .ensures tt .within .0, c .in-Continue-n .ensures tt .count),
+      c .in-Continue-n .ensures tt .labels ∙ c .loop-placed .inv .5,
+      c .in-Continue-n .ensures tt .count ∙ c .loop-placed .inv .6,
+      c .in-Continue-n .ensures tt .lent ∙ c .loop-placed .inv .7,
+    )

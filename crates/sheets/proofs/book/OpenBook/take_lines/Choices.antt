@@ -13,7 +13,7 @@ use Rattle.sheets.proofs.book.OpenBook.take_lines.Given as given
 abbrev pub Inv-loop-placed : given.InvT-loop-placed
 Inv-loop-placed l =
     (taking (length (now (l .entry .self .records))) (take (l .entry .self .count) (now (l .entry .self .records))) (sheetOf (l .text))
-      ≡ taking (length (now (l .entry .self .records))) (take (l .n) (now (l .self .records))) (ahead (l .walk)))
+    ≡ taking (length (now (l .entry .self .records))) (take (l .n) (now (l .self .records))) (ahead (l .walk)))
     × (over (take (l .n) (now (l .self .records))) (now (l .entry .self .records)) ≡ now (l .self .records))
     × (length (now (l .self .records)) ≡ length (now (l .entry .self .records)))
     × (l .n ≤ length (now (l .self .records)))

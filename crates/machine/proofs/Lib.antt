@@ -1,0 +1,14 @@
+pub mod Beat
+pub mod Ends
+pub mod References
+pub mod Marks
+pub mod Cycle
+pub mod Calls
+pub mod Invariant
+pub mod Twins
+pub mod Interrupts
+pub mod Characters
+pub mod Seven
+pub mod Readings
+pub mod Runs
+pub mod Cosimulation

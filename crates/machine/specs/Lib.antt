@@ -1,0 +1,13 @@
+pub mod Words
+pub mod Parts
+pub mod Beat
+pub mod Boards
+pub mod Gates
+pub mod Clock
+pub mod Table
+pub mod Cycle
+pub mod Calls
+pub mod Lists
+pub mod Laws
+pub mod Readings
+pub mod Cosimulation
