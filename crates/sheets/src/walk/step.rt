@@ -13,8 +13,22 @@ use crate::placed::Placed;
 use crate::placed::Step;
 use crate::walk::Walk;
 use fields::text::first_line;
+use statements::Code;
+use statements::Name;
 use statements::Statement;
 use statements::read_line;
+
+/// A statement that lays a word, at its line and address.
+fn place(line: u16, address: u32, label: Option<Name>, code: Code) -> Step
+    ensures { λ r. ⌜ r ≡ Step.Lays (record { line = line; address = address; label = label; code = code }) ⌝ }
+{
+    Step::Lays(Placed {
+        line,
+        address,
+        label,
+        code,
+    })
+}
 
 impl<'a> Walk<'a> {
     /// A sheet of which nothing is read yet.
@@ -41,45 +55,18 @@ impl<'a> Walk<'a> {
         };
         let lines = self.lines + 1;
         let statement = read_line(line, lines)?;
-        let address = self.address;
-        match statement {
-            Statement::Blank => {
-                *self = Walk {
-                    rest,
-                    lines,
-                    address,
-                };
-                Ok(Step::Nothing)
-            }
-            Statement::Origin(origin) => {
-                *self = Walk {
-                    rest,
-                    lines,
-                    address: u32::from(origin),
-                };
-                Ok(Step::Nothing)
-            }
-            Statement::End => {
-                *self = Walk {
-                    rest,
-                    lines,
-                    address,
-                };
-                Ok(Step::End)
-            }
-            Statement::Lays { label, code } => {
-                *self = Walk {
-                    rest,
-                    lines,
-                    address: address + 1,
-                };
-                Ok(Step::Lays(Placed {
-                    line: lines,
-                    address,
-                    label,
-                    code,
-                }))
-            }
-        }
+        let at = self.address;
+        let (address, step) = match statement {
+            Statement::Blank => (at, Step::Nothing),
+            Statement::Origin(origin) => (u32::from(origin), Step::Nothing),
+            Statement::End => (at, Step::End),
+            Statement::Lays { label, code } => (at + 1, place(lines, at, label, code)),
+        };
+        *self = Walk {
+            rest,
+            lines,
+            address,
+        };
+        Ok(step)
     }
 }
