@@ -14,6 +14,7 @@ use Rattle.std.specs.declared.option.Option.{Option}
 use Rattle.std.specs.declared.option.Option.the-variants.{Some, None}
 use Rattle.std.specs.declared.result.Result.{Result}
 use Rattle.std.specs.declared.result.Result.the-variants.{Ok, Err}
+use Rattle.fields.proofs.Outcomes.{clash}
 use Rattle.fields.specs.Outcomes.{lifted}
 use Rattle.memory.specs.Contents.{Contents, size}
 use Rattle.statements.specs.declared.statement.Name.{Name}
@@ -31,7 +32,6 @@ use Rattle.sheets.specs.Laying.{answered, cellsOf, laying, memoryAfter, stored
 use Rattle.sheets.specs.Sheets.{Sheet, end, refused, placed, sheetOf}
 use Rattle.sheets.specs.Taking.{Taken, entering, goOn, labelling, placing, taking}
 use Rattle.sheets.proofs.Laying.{Inside, fetched-last, fetched-others, granted, inside, inside-at, size-all}
-use Rattle.sheets.proofs.Results.{clash}
 use Rattle.sheets.proofs.Taking.{adds, new-label, no-label}
 
 -- a granted statement has room for its label

@@ -10,6 +10,7 @@ use native.Mathlib.Omega.{arith}
 use Rattle.std.specs.declared.result.Result.{Result}
 use Rattle.std.specs.declared.result.Result.the-variants.{Ok, Err}
 use Rattle.fields.specs.Outcomes.{andThen, lifted}
+use Rattle.fields.proofs.Outcomes.{clash, ok-both, ok-same, ok-when}
 use Rattle.memory.specs.Contents.{Contents, size, fetched, stored}
 use Rattle.memory.proofs.Contents.{size-stored, fetched-here, fetched-elsewhere}
 use Rattle.sheets.specs.declared.fault.LayingFault.{LayingFault}
@@ -22,7 +23,6 @@ use Rattle.sheets.specs.declared.placed.Placed.{Placed}
 use Rattle.sheets.specs.Laws.{Untouched}
 use Rattle.sheets.specs.Laying.{cellOf, cellsOf, codeWord, laying, storedAll}
 use Rattle.sheets.specs.Sheets.{Sheet, end, refused, placed, sheetOf}
-use Rattle.sheets.proofs.Results.{clash, ok-same, ok-when}
 
 pub size-all : (m : Contents) (cs : List Cell) → size (storedAll m cs) ≡ size m
 size-all m [] = refl
@@ -42,11 +42,6 @@ fetched-last m (x ∷ front) back c h u =
 abbrev pub Inside : List Cell → Type 0
 Inside [] = Unit {0}
 Inside (c ∷ cs) = (c .address ≤ 4095) × Inside cs
-
-module _ {X Y E : Type 0} where
-  ok-both : (r : Result X E) (next : X → Result Y E) (y : Y) → andThen r next ≡ Ok y → (x : X) × (r ≡ Ok x) × (next x ≡ Ok y)
-  ok-both (Ok x) next y h = (x, refl, h)
-  ok-both (Err e) next y h = absurd (clash e y h)
 
 abbrev cellAt : Placed → ℕ → Result Cell SheetFault
 cellAt p word = Ok (record { address = p .address; word = word })

@@ -1,4 +1,3 @@
-pub mod Results
 pub mod Labels
 pub mod Sheets
 pub mod Taking

@@ -11,6 +11,7 @@ use Rattle.std.specs.declared.option.Option.{Option}
 use Rattle.std.specs.declared.option.Option.the-variants.{Some, None}
 use Rattle.std.specs.declared.result.Result.{Result}
 use Rattle.std.specs.declared.result.Result.the-variants.{Ok, Err}
+use Rattle.fields.proofs.Outcomes.{clash, ok-then, ok-else}
 use Rattle.statements.specs.declared.statement.Name.{Name}
 use Rattle.sheets.specs.declared.fault.SheetFault.{SheetFault}
 use Rattle.sheets.specs.declared.fault.SheetFault.the-variants.{LabelTaken, BookFull, PastMemory}
@@ -20,7 +21,6 @@ use Rattle.sheets.specs.Labels.{lookup, over}
 use Rattle.sheets.specs.Laws.{labelled}
 use Rattle.sheets.specs.Sheets.{Sheet, placed}
 use Rattle.sheets.specs.Taking.{placing, labelling, entering, taking, goOn, entered, recordsAfter}
-use Rattle.sheets.proofs.Results.{clash, ok-then, ok-else}
 use Rattle.sheets.proofs.Labels.{over-over, take-over}
 
 -- a granted statement with a label: the name is new, there is room, and its word lies within the memory

@@ -1,9 +1,14 @@
 //! Reading the statement of a line.
 ghost use mathlib.Core.Path.{_≡_};
+ghost use mathlib.Core.Bool.{true};
 ghost use Prim.Native.Nat.{_+_};
 ghost use lib.ListN.{length};
+ghost use Rattle.std.specs.Vec.{made};
+ghost use Rattle.std.specs.declared.result.Result.the-variants.{Ok};
 ghost use Rattle.fields.specs.Cursors.{left};
-ghost use Rattle.fields.specs.Fields.{fieldsOf};
+ghost use Rattle.fields.specs.Fields.{allPlain, fieldsOf};
+ghost use Rattle.statements.specs.declared.statement.Statement.{Statement};
+ghost use Rattle.statements.specs.Grammar.{Form};
 ghost use Rattle.statements.specs.Forms.{originOf, unlabelledOf, labelledOf, behindComma, namedOf, statementOf, lineStatement};
 use crate::code::read_code;
 use crate::fault::StatementFault;
@@ -89,10 +94,19 @@ fn read_statement(text: &[u8], line: u16) -> Result<Statement, StatementFault>
     }
 }
 
-/// The statement of a line, or its refusal under the line's number.
-pub fn read_line(text: &[u8], line: u16) -> Result<Statement, StatementFault>
+/// The statement of a line whose bytes are checked first.
+fn read_checked(text: &[u8], line: u16) -> Result<Statement, StatementFault>
     ensures { λ r. ⌜ r ≡ lineStatement line (now (text .entry)) ⌝ }
 {
     check_bytes(text, line)?;
     read_statement(text, line)
+}
+
+/// The statement of a line, or its refusal under the line's number.
+pub fn read_line(text: &[u8], line: u16) -> Result<Statement, StatementFault>
+    ensures statement { λ r. ⌜ r ≡ lineStatement line (now (text .entry)) ⌝ }
+    ensures form { λ r. ⌜ made r (λ s. Form (fieldsOf (now (text .entry))) s) ⌝ }
+    ensures each { λ r. ⌜ ((s : Statement) → allPlain (now (text .entry)) ≡ true → Form (fieldsOf (now (text .entry))) s → r ≡ Ok s) ⌝ }
+{
+    read_checked(text, line)
 }
