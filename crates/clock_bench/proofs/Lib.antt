@@ -1,0 +1,3 @@
+pub mod ClockSignals
+pub mod ClockTransfers
+pub mod ClockBeats
