@@ -102,7 +102,7 @@ fn tell_agreement(
 }
 
 /// Lays the sheet in two memories, makes the calls on both benches, and tells what came of it.
-pub fn try_both(rt: &LibcRuntime, options: Options) -> Result<(), AnyError> {
+pub(crate) fn try_both(rt: &LibcRuntime, options: Options) -> Result<(), AnyError> {
     let text = match fs::read(rt, options.sheet) {
         Ok(text) => text,
         Err(_) => {

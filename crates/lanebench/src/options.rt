@@ -3,7 +3,7 @@ use fields::number::hexadecimal;
 
 /// A sheet to try, and how.
 #[derive(Clone, Copy)]
-pub struct Options<'a> {
+pub(crate) struct Options<'a> {
     pub sheet: &'a str,
     pub start: u16,
     pub clocks: u16,
@@ -11,7 +11,7 @@ pub struct Options<'a> {
 }
 
 /// What is asked for.
-pub enum Asked<'a> {
+pub(crate) enum Asked<'a> {
     Help,
     Unknown(&'a str),
     Both(Options<'a>),
@@ -41,7 +41,7 @@ fn taken<'a>(options: Options<'a>, option: &str, value: &'a str) -> Option<Optio
 }
 
 /// Reads the words in pairs: an option and its value.
-pub fn read_options(words: &[String]) -> Asked<'_> {
+pub(crate) fn read_options(words: &[String]) -> Asked<'_> {
     let mut options = Options {
         sheet: "",
         start: 0,

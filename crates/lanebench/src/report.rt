@@ -5,7 +5,7 @@ use machine::Call;
 
 /// How many calls, granted clocks, cycles and refusals there were.
 #[derive(Clone, Copy, Debug)]
-pub struct Tally {
+pub(crate) struct Tally {
     pub calls: usize,
     pub clocks: usize,
     pub cycles: usize,
@@ -31,7 +31,7 @@ fn counted(tally: Tally, call: Call, outcome: Outcome) -> Tally {
 }
 
 /// Counts the calls by what they returned.
-pub fn count_calls(calls: &[Call], outcomes: &[Outcome]) -> Tally {
+pub(crate) fn count_calls(calls: &[Call], outcomes: &[Outcome]) -> Tally {
     let mut all = Tally {
         calls: 0,
         clocks: 0,
@@ -45,7 +45,7 @@ pub fn count_calls(calls: &[Call], outcomes: &[Outcome]) -> Tally {
 }
 
 /// Whether both computers show the same registers to a program.
-pub fn same_registers(pair: &Cosimulation) -> bool {
+pub(crate) fn same_registers(pair: &Cosimulation) -> bool {
     let first = pair.computer.registers();
     let twin = pair.twin.visible();
     first.ac == twin.ac

@@ -1,5 +1,4 @@
 //! T0 to T2: a word is fetched and decoded, or the interrupt cycle is made. AR and PC take 12 bits of the bus.
-ghost use mathlib.Core.Path.{_≡_};
 ghost use Prim.Native.Nat.{_<_};
 ghost use Rattle.memory.specs.Contents.{Contents};
 ghost use Rattle.clock_bench.specs.ClockComputers.{Moves};

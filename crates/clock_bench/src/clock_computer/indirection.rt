@@ -1,5 +1,4 @@
 //! T3: an instruction of opcode 7 is carried out; for any other an indirect address is replaced.
-ghost use mathlib.Core.Path.{_≡_};
 ghost use Prim.Native.Nat.{_<_};
 ghost use Rattle.clock_bench.specs.ClockComputers.{Moves};
 use crate::clock_computer::interrupt::raised;

@@ -1,4 +1,4 @@
-use mathlib.Core.Path.{_≡_, sym, ap, _∙_, subst}
+use mathlib.Core.Path.{sym, ap, _∙_, subst}
 use Rattle.machine.specs.declared.registers.Registers.{Registers}
 use Rattle.machine.specs.Boards.{Sound}
 use Rattle.clock_bench.specs.ClockComputers.{registers-of}
