@@ -1,4 +1,6 @@
 //! The benches: computers that are put together with a memory and a line, and run from a panel.
+#![tactic(auto)]
+
 pub mod clock_computer;
 #[cfg(test)]
 mod tests;

@@ -1,4 +1,6 @@
 //! The bench: the basic computer in code.
+#![tactic(auto)]
+
 pub mod cycle_computer;
 mod ports;
 #[cfg(test)]

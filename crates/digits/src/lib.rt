@@ -1,4 +1,6 @@
 //! What a register holds, as hexadecimal digits with capital letters and leading zeros.
+#![tactic(auto)]
+
 ghost use Rattle.std.specs.Prelude.{◌≡◌};
 ghost use Rattle.digits.specs.Digits.{last_digit, flag_digit, count_digit, byte_digits, address_digits, word_digits};
 

@@ -1,4 +1,6 @@
 //! Words of the Basic Computer as rows of a program sheet.
+#![tactic(auto)]
+
 mod name;
 mod row;
 #[cfg(test)]

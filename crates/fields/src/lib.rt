@@ -1,4 +1,6 @@
 //! The first layer of the sheet reader: lines, their fields, and numbers.
+#![tactic(auto)]
+
 pub mod cursor;
 pub mod fault;
 pub mod number;

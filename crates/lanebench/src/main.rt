@@ -1,4 +1,6 @@
 //! Lays a sheet and tries it on both benches at once.
+#![tactic(auto)]
+
 use std::env;
 
 mod both;

@@ -1,4 +1,6 @@
 //! Reads a program sheet from standard input, lays it in zeroed memory and lists its words.
+#![tactic(auto)]
+
 ghost use Rattle.std.specs.Prelude.{◌≡◌, ◌+◌, min};
 
 use fields::Report;

@@ -2,6 +2,7 @@
 //!
 //! After the transfers of each clock the computer shows its line a [`Status`], and the line gives a [`Reply`]. What a line
 //! means is its reply rule: for each list of statuses, the replies, one each, that it would give from now on.
+#![tactic(auto)]
 
 pub mod cue;
 pub mod line;

@@ -12,8 +12,8 @@ pub fn play<L: Line>(
     statuses: &[Status],
     heap: Global,
 ) -> Result<Vec<Reply>, AllocError>
-    ensures replies { IfOk result (λ v. v.items ≡ replies line.old statuses.now) }
-    ensures rule { OnOk result (replies line.new ≡ rule_after_all (replies line.old) statuses.now) }
+    ensures replies { IfOk result (λ v. v.items ≡ L.replies line.old statuses.now) }
+    ensures rule { OnOk result (L.replies line.new ≡ rule_after_all (L.replies line.old) statuses.now) }
     ensures untouched { OnErr result (line.new ≡ line.old) }
 {
     let mut replies = Vec::with_capacity(heap, statuses.len())?;

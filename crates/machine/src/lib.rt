@@ -1,4 +1,6 @@
 //! The basic computer of M. Mano's textbook as definitions, clocked by gates and by whole cycles, and what holds of it.
+#![tactic(auto)]
+
 pub mod call;
 pub mod refusal;
 pub mod registers;

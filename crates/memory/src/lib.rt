@@ -1,4 +1,6 @@
 //! Memories of 16-bit words: the trait that every user of a memory is proved against, and two memories.
+#![tactic(auto)]
+
 pub mod image_memory;
 pub mod memory;
 #[cfg(test)]

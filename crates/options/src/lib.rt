@@ -1,4 +1,6 @@
 //! The words behind a program's name.
+#![tactic(auto)]
+
 pub mod options;
 mod reading;
 #[cfg(test)]

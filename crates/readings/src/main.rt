@@ -1,4 +1,6 @@
 //! Holds both benches against readings from the board and against a second simulator.
+#![tactic(auto)]
+
 mod board;
 mod random;
 mod rig;

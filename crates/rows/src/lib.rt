@@ -1,4 +1,6 @@
 //! The registers of the computer as text: rows under a heading, lines by name, and bytes that do not print.
+#![tactic(auto)]
+
 mod cell;
 pub mod clock;
 mod column;

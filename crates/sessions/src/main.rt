@@ -1,4 +1,6 @@
 //! Tries a sheet on a bench: by whole instructions, clock by clock, or on both benches at once.
+#![tactic(auto)]
+
 mod both;
 mod by_clocks;
 mod by_cycles;

@@ -1,5 +1,7 @@
 //! Lays each of the sheets on standard input and tells what came of it. A line that begins with `=` is the title of the
 //! sheet below it.
+#![tactic(auto)]
+
 use fields::Report;
 use fields::text::first_line;
 use memory::{Memory, WordMemory};

@@ -1,4 +1,6 @@
 //! The third layer of the sheet reader: the label book, taking names and laying words.
+#![tactic(auto)]
+
 pub mod assembly;
 pub mod book;
 pub mod fault;

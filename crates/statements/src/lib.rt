@@ -1,4 +1,6 @@
 //! The second layer of the sheet reader: what a line of fields says.
+#![tactic(auto)]
+
 mod code;
 pub mod fault;
 mod line;

@@ -9,10 +9,10 @@ pub loop-status-preserved : goal.loop-status-preserved
 loop-status-preserved g c =
     let h : c.loop-status.status-index < length c.args.statuses.now = omega arith in
     let inv = c.loop-status.invariant in
-    let pushed = c.push-reserved.ensures in (
+    let pushed = c.push_reserved.ensures in (
       replied-next (g.L.Line.replies c.args.line.now) (g.L.Line.replies c.loop-status.line) (g.L.Line.replies c.beat.new.self)
           c.args.statuses.now c.loop-status.status-index (record { fgi = false; fgo = false; outr = 0 })
-          c.loop-status.replies.items c.push-reserved.new.self.items c.beat.result h pushed.items inv.0 c.beat.ensures.rule,
+          c.loop-status.replies.items c.push_reserved.new.self.items c.beat.result h pushed.items inv.0 c.beat.ensures.rule,
       omega (arith, pushed.len, inv.1),
       omega (arith, pushed.capacity, inv.2),
     )

@@ -9,9 +9,9 @@ pub loop-status-preserved : goal.loop-status-preserved
 loop-status-preserved c =
     let h : c.loop-status.status-index < length c.args.statuses.now = omega arith in
     let inv = c.loop-status.invariant in
-    let pushed = c.push-reserved.ensures in
+    let pushed = c.push_reserved.ensures in
     let p = played-next (script_of c.args.self.now) (script_of c.loop-status.self) (script_of c.beat.new.self) c.args.statuses.now
-    c.loop-status.status-index (record { fgi = false; fgo = false; outr = 0 }) c.loop-status.replies.items c.push-reserved.new.self.items c.beat.result h
+    c.loop-status.status-index (record { fgi = false; fgo = false; outr = 0 }) c.loop-status.replies.items c.push_reserved.new.self.items c.beat.result h
     pushed.items inv.0 inv.1 c.beat.ensures.rule c.beat.ensures.script in
     (p.0, p.1, omega (arith, pushed.len, inv.2), omega (arith, pushed.capacity, inv.3))
 
@@ -28,6 +28,6 @@ returns c =
       replies = e;
       script = f;
       in_order = played-in-order before after statuses replies e f;
-      on-paper = played-on-paper before after statuses replies e f;
+      on_paper = played-on-paper before after statuses replies e f;
       untouched = tt;
     }

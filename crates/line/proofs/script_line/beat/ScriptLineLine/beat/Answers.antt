@@ -11,12 +11,12 @@ pub returns : goal.returns
 returns c =
     let before = script_of c.args.self.now in
     let after : Script = record {
-      cues = (script_of c.hand-over-character.new.self).cues;
-      count = c.hand-over-character.new.self.count;
+      cues = (script_of c.hand_over-character.new.self).cues;
+      count = c.hand_over-character.new.self.count;
       printed = printed_on c.print-printed.new.self;
       blank = blank_of c.print-printed.new.self;
     } in
-    let reply : Reply = record { character = c.hand-over-character.result; printed = c.print-printed.result } in
+    let reply : Reply = record { character = c.hand_over-character.result; printed = c.print-printed.result } in
     let b = beaten before after c.args.status reply
     (record { character_is = cc; left_is = cc; counted_is = cc })
     (record { reply_is = cc; printed_is = cc; blank_is = cc }) in
@@ -29,5 +29,5 @@ returns c =
       printed = not-printed (script_replies before) c.args.status reply (script_replies after) proper rule;
       script = b.after_is;
       in_order = hands-over-in-order before;
-      on-paper = prints-on-paper before;
+      on_paper = prints-on-paper before;
     }
