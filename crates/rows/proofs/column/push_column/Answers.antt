@@ -6,10 +6,10 @@ use Rattle.std.proofs.Common.{vec_items}
 
 pub returns : goal.returns
 returns c =
-    IfOk-weaker c.push-spaces.result _ _
+    IfOk-weaker c.push_spaces.result _ _
     (λ _ spaces. padded-two (vec_items c.args.text.now) (cell_text c.args.cell) c.args.room _ _
     c.width.ensures
-    c.saturating-sub.ensures
-    c.in-ok-push-cell.ensures
+    c.saturating_sub.ensures
+    c.in_ok-push_cell.ensures
     spaces)
-    c.push-spaces.ensures
+    c.push_spaces.ensures

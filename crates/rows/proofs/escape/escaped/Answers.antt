@@ -6,7 +6,7 @@ use Rattle.rows.specs.Escapes.{escaped_byte, Printable}
 use Rattle.std.proofs.ByRecursion.{All-from_get_or}
 
 pub loop-byte-preserved : goal.loop-byte-preserved
-loop-byte-preserved c = piece-more escaped_byte _ _ _ _ _ _ c.loop-byte-test.true c.loop-byte.invariant c.in-ok-push-escaped.ensures
+loop-byte-preserved c = piece-more escaped_byte _ _ _ _ _ _ c.loop-byte-test.true c.loop-byte.invariant c.in_ok-push_escaped.ensures
 
 pub returns : goal.returns
 returns c =

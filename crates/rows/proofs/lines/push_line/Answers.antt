@@ -7,8 +7,8 @@ use Rattle.std.proofs.lemmas.Slice.{pushed}
 pub returns : goal.returns
 returns c =
     named-four (vec_items c.args.text.now) c.args.name.now (cell_text c.args.cell)
-    (pushed c.as-bytes.result.now refl c.in-ok-extend-from-slice.was c.extend-from-slice.ensures.items
-    ∙ ap (λ (l : List ℕ). vec_items c.args.text.now ++ l) c.as-bytes.ensures.value)
-    (pushed (32 ∷ []) refl c.in-ok-push.was c.push.ensures.items)
-    c.in-ok-push-cell.ensures
-    (pushed (10 ∷ []) refl c.in-ok-push-2.was c.push-2.ensures.items)
+    (pushed c.as_bytes.result.now refl c.in_ok-extend_from_slice.was c.extend_from_slice.ensures.items
+    ∙ ap (λ (l : List ℕ). vec_items c.args.text.now ++ l) c.as_bytes.ensures.value)
+    (pushed (32 ∷ []) refl c.in_ok-push.was c.push.ensures.items)
+    c.in_ok-push_cell.ensures
+    (pushed (10 ∷ []) refl c.in_ok-push-2.was c.push-2.ensures.items)

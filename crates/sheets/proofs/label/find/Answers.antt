@@ -14,7 +14,7 @@ none [] name h = refl
 none (x ∷ xs) name h = absurd (omega arith)
 
 pub loop-rest-preserved : goal.loop-rest-preserved
-loop-rest-preserved c = c.loop-rest.invariant ∙ passed c.loop-rest.rest.now _ c.args.name (search rules) c.if-is-same.ensures
+loop-rest-preserved c = c.loop-rest.invariant ∙ passed c.loop-rest.rest.now _ c.args.name (search rules) c.if-is_same.ensures
 
 pub returns : goal.returns
 returns c = sym (c.loop-rest.invariant ∙ none c.loop-rest.rest.now c.args.name (search rules))

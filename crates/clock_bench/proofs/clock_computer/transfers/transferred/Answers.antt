@@ -26,7 +26,7 @@ returns-in-5 g c =
     let contents = g.M.Memory.contents c.args.memory.now in
     at-signal c.args.old c.t5.result contents contents 5 c.in-5.is (c.t5.ensures contents)
 
-pub returns-in-default : goal.returns-in-default
-returns-in-default g c =
+pub returns-in_default : goal.returns-in_default
+returns-in_default g c =
     let e : c.args.old.sc ≡ 6 = omega arith in
     at-signal c.args.old c.t6.result _ _ 6 e c.t6.ensures

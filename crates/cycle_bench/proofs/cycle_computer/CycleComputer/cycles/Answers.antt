@@ -20,12 +20,12 @@ returns-then-not-self g c =
 pub loop-made-preserved : goal.loop-made-preserved
 loop-made-preserved g c =
     let m : c.loop-made.made < c.args.n = omega arith in (
-      omega (arith, c.whole-cycle.ensures.most),
-      goes_on c.args.n c.loop-made.made c.loop-made.clocks c.whole-cycle.result
+      omega (arith, c.whole_cycle.ensures.most),
+      goes_on c.args.n c.loop-made.made c.loop-made.clocks c.whole_cycle.result
           (cycle_board c.loop-made.self (g.M.Memory.contents c.loop-made.memory) (g.L.Line.replies c.loop-made.line))
-          (cycle_board c.whole-cycle.new.self (g.M.Memory.contents c.whole-cycle.new.memory) (g.L.Line.replies c.whole-cycle.new.line))
+          (cycle_board c.whole_cycle.new.self (g.M.Memory.contents c.whole_cycle.new.memory) (g.L.Line.replies c.whole_cycle.new.line))
           (ran c.args.n (cycle_board c.args.self.now (g.M.Memory.contents c.args.memory.now) (g.L.Line.replies c.args.line.now)))
-          m c.if-not-self.false c.whole-cycle.ensures.clocks c.whole-cycle.ensures.board c.loop-made.invariant.1,
+          m c.if-not-self.false c.whole_cycle.ensures.clocks c.whole_cycle.ensures.board c.loop-made.invariant.1,
     )
 
 pub returns : goal.returns

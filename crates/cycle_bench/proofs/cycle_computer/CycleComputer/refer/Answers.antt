@@ -64,13 +64,13 @@ returns-in-5 g c =
     (cycle_board c.bsa.new.self (g.M.Memory.contents c.bsa.new.memory) rule)
     c.in-5.is (c.ready-in-5.ensures words) (c.bsa.ensures rule)
 
-pub returns-in-default : goal.returns-in-default
-returns-in-default g c =
+pub returns-in_default : goal.returns-in_default
+returns-in_default g c =
     let words = g.M.Memory.contents c.args.memory.now in
-    let rule = g.L.Line.replies c.ready-in-default.new.line in
+    let rule = g.L.Line.replies c.ready-in_default.new.line in
     let e : opcode c.args.word ≡ 6 = omega arith in
     when-ready 6 (opcode c.args.word) c.args.word c.isz.result
     (cycle_board c.args.self.now (g.M.Memory.contents c.args.memory.now) (g.L.Line.replies c.args.line.now))
-    (cycle_board c.ready-in-default.new.self words rule)
+    (cycle_board c.ready-in_default.new.self words rule)
     (cycle_board c.isz.new.self (g.M.Memory.contents c.isz.new.memory) rule)
-    e (c.ready-in-default.ensures words) (c.isz.ensures rule)
+    e (c.ready-in_default.ensures words) (c.isz.ensures rule)

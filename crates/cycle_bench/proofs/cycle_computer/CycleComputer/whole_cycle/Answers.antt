@@ -5,12 +5,12 @@ use Rattle.cycle_bench.proofs.cycle_computer.CycleComputer.whole_cycle.Goals as 
 pub returns : goal.returns
 returns g c =
     let b = cycle_board c.args.self.now (g.M.Memory.contents c.args.memory.now) (g.L.Line.replies c.args.line.now) in
-    let words = g.M.Memory.contents c.before-last-beat-clocks.new.memory in
-    let u = cycle_board c.before-last-beat-clocks.new.self words (g.L.Line.replies c.before-last-beat-clocks.new.line) in
+    let words = g.M.Memory.contents c.before_last_beat-clocks.new.memory in
+    let u = cycle_board c.before_last_beat-clocks.new.self words (g.L.Line.replies c.before_last_beat-clocks.new.line) in
     record {
-      clocks = c.before-last-beat-clocks.ensures.answer;
-      most = at-most-seven b u c.before-last-beat-clocks.result c.before-last-beat-clocks.ensures;
+      clocks = c.before_last_beat-clocks.ensures.answer;
+      most = at-most-seven b u c.before_last_beat-clocks.result c.before_last_beat-clocks.ensures;
       board =
           cycle-is b u (cycle_board c.beat.new.self words (g.L.Line.replies c.beat.new.line))
-          c.before-last-beat-clocks.result c.before-last-beat-clocks.ensures (c.beat.ensures words);
+          c.before_last_beat-clocks.result c.before_last_beat-clocks.ensures (c.beat.ensures words);
     }

@@ -3,7 +3,7 @@ use Rattle.sheets.proofs.book.ClosedBook.lay.Goals as goal
 
 pub returns : goal.returns
 returns g c = record {
-  answer = c.lay-sheet.ensures.answer;
-  memory = c.lay-sheet.ensures.memory;
-  law = lays-after _ _ _ c.args.text.now c.lay-sheet.ensures.memory;
+  answer = c.lay_sheet.ensures.answer;
+  memory = c.lay_sheet.ensures.memory;
+  law = lays-after _ _ _ c.args.text.now c.lay_sheet.ensures.memory;
 }

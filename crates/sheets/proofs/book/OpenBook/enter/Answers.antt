@@ -4,8 +4,8 @@ use Rattle.sheets.specs.declared.label.Label.{Label}
 use Rattle.sheets.proofs.Labels.{length-held, length_more, over-held, over-more}
 use Rattle.sheets.proofs.book.OpenBook.enter.Goals as goal
 
-pub returns-in-default : goal.returns-in-default
-returns-in-default c =
+pub returns-in_default : goal.returns-in_default
+returns-in_default c =
     let k = length-held c.args.n c.args.self.now.records.now c.requires.1 in
     let o = over-held c.args.n c.args.self.now.records.now c.requires.1 in
     search rules
