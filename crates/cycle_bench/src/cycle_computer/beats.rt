@@ -12,14 +12,14 @@ use line::Line;
 impl CycleComputer {
     /// Some beats.
     pub(super) fn beats<L: Line>(&mut self, line: &mut L, n: u8)
-        ensures { (words : Contents) → cycle_board self.new words (replies line.new) ≡ beaten n (cycle_board self.old words (replies line.old)) }
+        ensures { (words : Contents) → cycle_board self.new words (L.replies line.new) ≡ beaten n (cycle_board self.old words (L.replies line.old)) }
     {
         ports::beats(&mut self.port, line, n);
     }
 
     /// One beat.
     pub(super) fn beat<L: Line>(&mut self, line: &mut L)
-        ensures { (words : Contents) → cycle_board self.new words (replies line.new) ≡ beaten 1 (cycle_board self.old words (replies line.old)) }
+        ensures { (words : Contents) → cycle_board self.new words (L.replies line.new) ≡ beaten 1 (cycle_board self.old words (L.replies line.old)) }
     {
         ports::beat(&mut self.port, line);
     }
@@ -34,7 +34,7 @@ impl CycleComputer {
 
     /// The beats before an instruction is carried out, and the step past its word.
     pub(super) fn ready<L: Line>(&mut self, line: &mut L, n: u8)
-        ensures { (words : Contents) → cycle_board self.new words (replies line.new) ≡ readied n (cycle_board self.old words (replies line.old)) }
+        ensures { (words : Contents) → cycle_board self.new words (L.replies line.new) ≡ readied n (cycle_board self.old words (L.replies line.old)) }
     {
         self.beats(line, n);
         self.step();

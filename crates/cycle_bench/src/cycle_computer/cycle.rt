@@ -13,7 +13,7 @@ use memory::Memory;
 impl CycleComputer {
     /// A cycle but for its last beat. Answers its clocks.
     fn before_last_beat<M: Memory, L: Line>(&mut self, memory: &mut M, line: &mut L) -> u16
-        ensures { BeforeLastBeat (cycle_board self.old (contents memory.old) (replies line.old)) result (cycle_board self.new (contents memory.new) (replies line.new)) }
+        ensures { BeforeLastBeat (cycle_board self.old (M.contents memory.old) (L.replies line.old)) result (cycle_board self.new (M.contents memory.new) (L.replies line.new)) }
     {
         if self.r {
             self.beats(line, 2);
@@ -25,9 +25,9 @@ impl CycleComputer {
 
     /// A whole cycle. Answers its clocks.
     pub(super) fn whole_cycle<M: Memory, L: Line>(&mut self, memory: &mut M, line: &mut L) -> u16
-        ensures clocks { result ≡ Clocks (cycle_board self.old (contents memory.old) (replies line.old)) }
+        ensures clocks { result ≡ Clocks (cycle_board self.old (M.contents memory.old) (L.replies line.old)) }
         ensures most { result ≤ 7 }
-        ensures board { cycle_board self.new (contents memory.new) (replies line.new) ≡ cycled (cycle_board self.old (contents memory.old) (replies line.old)) }
+        ensures board { cycle_board self.new (M.contents memory.new) (L.replies line.new) ≡ cycled (cycle_board self.old (M.contents memory.old) (L.replies line.old)) }
     {
         let clocks = self.before_last_beat(memory, line);
         self.beat(line);
@@ -40,8 +40,8 @@ impl CycleComputer {
         memory: &mut M,
         line: &mut L,
     ) -> Result<u16, Refusal>
-        ensures outcome { outcome result ≡ (on_cycled Clock (cycle_board self.old (contents memory.old) (replies line.old))).outcome }
-        ensures after { cycle_board self.new (contents memory.new) (replies line.new) ≡ (on_cycled Clock (cycle_board self.old (contents memory.old) (replies line.old))).after }
+        ensures outcome { outcome result ≡ (on_cycled Clock (cycle_board self.old (M.contents memory.old) (L.replies line.old))).outcome }
+        ensures after { cycle_board self.new (M.contents memory.new) (L.replies line.new) ≡ (on_cycled Clock (cycle_board self.old (M.contents memory.old) (L.replies line.old))).after }
         ensures refusal { is_err result ≡ true → (self.new ≡ self.old) × (memory.new ≡ memory.old) × (line.new ≡ line.old) }
     {
         if memory.size() != 4096 {

@@ -13,7 +13,7 @@ impl CycleComputer {
     /// A memory-reference instruction, but for the last beat. Answers its clocks.
     fn refer<M: Memory, L: Line>(&mut self, memory: &mut M, line: &mut L, word: u16) -> u16
         requires { opcode word < 7 }
-        ensures { CarriedOut (row (opcode word)) word (readied ((row (opcode word)).clocks - 1) (cycle_board self.old (contents memory.old) (replies line.old))) result (cycle_board self.new (contents memory.new) (replies line.new)) }
+        ensures { CarriedOut (row (opcode word)) word (readied ((row (opcode word)).clocks - 1) (cycle_board self.old (M.contents memory.old) (L.replies line.old))) result (cycle_board self.new (M.contents memory.new) (L.replies line.new)) }
     {
         match word / 4096 % 8 {
             0 => {
@@ -49,7 +49,7 @@ impl CycleComputer {
 
     /// The instruction at PC, but for its last beat. Answers its clocks.
     pub(super) fn execute<M: Memory, L: Line>(&mut self, memory: &mut M, line: &mut L) -> u16
-        ensures { Executed (cycle_board self.old (contents memory.old) (replies line.old)) result (cycle_board self.new (contents memory.new) (replies line.new)) }
+        ensures { Executed (cycle_board self.old (M.contents memory.old) (L.replies line.old)) result (cycle_board self.new (M.contents memory.new) (L.replies line.new)) }
     {
         let word = memory.fetch(self.pc);
         let indirect = bit!(word, 15);

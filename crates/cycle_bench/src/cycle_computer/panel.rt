@@ -47,8 +47,8 @@ impl CycleComputer {
         address: u16,
         word: u16,
     ) -> Result<u16, Refusal>
-        ensures outcome { (rule : Rule) → outcome result ≡ (on_cycled (Deposit address word) (cycle_board self.old (contents memory.old) rule)).outcome }
-        ensures after { (rule : Rule) → cycle_board self.new (contents memory.new) rule ≡ (on_cycled (Deposit address word) (cycle_board self.old (contents memory.old) rule)).after }
+        ensures outcome { (rule : Rule) → outcome result ≡ (on_cycled (Deposit address word) (cycle_board self.old (M.contents memory.old) rule)).outcome }
+        ensures after { (rule : Rule) → cycle_board self.new (M.contents memory.new) rule ≡ (on_cycled (Deposit address word) (cycle_board self.old (M.contents memory.old) rule)).after }
         ensures refusal { is_err result ≡ true → (self.new ≡ self.old) × (memory.new ≡ memory.old) }
     {
         if memory.size() != 4096 {
@@ -66,8 +66,8 @@ impl CycleComputer {
 
     /// Reads the word at an address. Answers the word.
     pub fn examine<M: Memory>(&mut self, memory: &M, address: u16) -> Result<u16, Refusal>
-        ensures outcome { (rule : Rule) → outcome result ≡ (on_cycled (Examine address) (cycle_board self.old (contents memory.now) rule)).outcome }
-        ensures after { (rule : Rule) → cycle_board self.new (contents memory.now) rule ≡ (on_cycled (Examine address) (cycle_board self.old (contents memory.now) rule)).after }
+        ensures outcome { (rule : Rule) → outcome result ≡ (on_cycled (Examine address) (cycle_board self.old (M.contents memory.now) rule)).outcome }
+        ensures after { (rule : Rule) → cycle_board self.new (M.contents memory.now) rule ≡ (on_cycled (Examine address) (cycle_board self.old (M.contents memory.now) rule)).after }
         ensures refusal { self.new ≡ self.old }
     {
         if memory.size() != 4096 {

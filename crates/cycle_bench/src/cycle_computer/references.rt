@@ -11,7 +11,7 @@ use memory::Memory;
 
 /// The address of a word: its low 12 bits, or with bit 15 up those of the word there.
 fn address_of<M: Memory>(memory: &M, word: u16) -> u16
-    ensures value { result ≡ Address (contents memory.now) word }
+    ensures value { result ≡ Address (M.contents memory.now) word }
     ensures fits { result < 4096 }
 {
     let address = word % 4096;
@@ -24,7 +24,7 @@ fn address_of<M: Memory>(memory: &M, word: u16) -> u16
 
 /// The word at that address.
 fn operand_of<M: Memory>(memory: &M, word: u16) -> u16
-    ensures { result ≡ fetched (contents memory.now) (Address (contents memory.now) word) }
+    ensures { result ≡ fetched (M.contents memory.now) (Address (M.contents memory.now) word) }
 {
     memory.fetch(address_of(memory, word))
 }
@@ -32,7 +32,7 @@ fn operand_of<M: Memory>(memory: &M, word: u16) -> u16
 impl CycleComputer {
     /// AND: AC and the operand, bit by bit.
     pub(super) fn and<M: Memory>(&mut self, memory: &M, word: u16) -> u16
-        ensures { (rule : Rule) → CarriedOut AND word (cycle_board self.old (contents memory.now) rule) result (cycle_board self.new (contents memory.now) rule) }
+        ensures { (rule : Rule) → CarriedOut AND word (cycle_board self.old (M.contents memory.now) rule) result (cycle_board self.new (M.contents memory.now) rule) }
     {
         self.ac &= operand_of(memory, word);
         6
@@ -40,7 +40,7 @@ impl CycleComputer {
 
     /// ADD: AC plus the operand, with the carry in E.
     pub(super) fn add<M: Memory>(&mut self, memory: &M, word: u16) -> u16
-        ensures { (rule : Rule) → CarriedOut ADD word (cycle_board self.old (contents memory.now) rule) result (cycle_board self.new (contents memory.now) rule) }
+        ensures { (rule : Rule) → CarriedOut ADD word (cycle_board self.old (M.contents memory.now) rule) result (cycle_board self.new (M.contents memory.now) rule) }
     {
         let operand = operand_of(memory, word);
         self.e = self.ac as u32 + operand as u32 >= 65536;
@@ -50,7 +50,7 @@ impl CycleComputer {
 
     /// LDA: AC takes the operand.
     pub(super) fn lda<M: Memory>(&mut self, memory: &M, word: u16) -> u16
-        ensures { (rule : Rule) → CarriedOut LDA word (cycle_board self.old (contents memory.now) rule) result (cycle_board self.new (contents memory.now) rule) }
+        ensures { (rule : Rule) → CarriedOut LDA word (cycle_board self.old (M.contents memory.now) rule) result (cycle_board self.new (M.contents memory.now) rule) }
     {
         self.ac = operand_of(memory, word);
         6
@@ -58,7 +58,7 @@ impl CycleComputer {
 
     /// STA: the memory takes AC.
     pub(super) fn sta<M: Memory>(&mut self, memory: &mut M, word: u16) -> u16
-        ensures { (rule : Rule) → CarriedOut STA word (cycle_board self.old (contents memory.old) rule) result (cycle_board self.new (contents memory.new) rule) }
+        ensures { (rule : Rule) → CarriedOut STA word (cycle_board self.old (M.contents memory.old) rule) result (cycle_board self.new (M.contents memory.new) rule) }
     {
         let address = address_of(memory, word);
         memory.store(address, self.ac);
@@ -67,7 +67,7 @@ impl CycleComputer {
 
     /// BUN: PC takes the address.
     pub(super) fn bun<M: Memory>(&mut self, memory: &M, word: u16) -> u16
-        ensures { (rule : Rule) → CarriedOut BUN word (cycle_board self.old (contents memory.now) rule) result (cycle_board self.new (contents memory.now) rule) }
+        ensures { (rule : Rule) → CarriedOut BUN word (cycle_board self.old (M.contents memory.now) rule) result (cycle_board self.new (M.contents memory.now) rule) }
     {
         self.pc = address_of(memory, word);
         5
@@ -75,7 +75,7 @@ impl CycleComputer {
 
     /// BSA: the memory takes PC, and PC the address after.
     pub(super) fn bsa<M: Memory>(&mut self, memory: &mut M, word: u16) -> u16
-        ensures { (rule : Rule) → CarriedOut BSA word (cycle_board self.old (contents memory.old) rule) result (cycle_board self.new (contents memory.new) rule) }
+        ensures { (rule : Rule) → CarriedOut BSA word (cycle_board self.old (M.contents memory.old) rule) result (cycle_board self.new (M.contents memory.new) rule) }
     {
         let address = address_of(memory, word);
         memory.store(address, self.pc);
@@ -85,7 +85,7 @@ impl CycleComputer {
 
     /// ISZ: one more in the memory, with a skip where that makes zero.
     pub(super) fn isz<M: Memory>(&mut self, memory: &mut M, word: u16) -> u16
-        ensures { (rule : Rule) → CarriedOut ISZ word (cycle_board self.old (contents memory.old) rule) result (cycle_board self.new (contents memory.new) rule) }
+        ensures { (rule : Rule) → CarriedOut ISZ word (cycle_board self.old (M.contents memory.old) rule) result (cycle_board self.new (M.contents memory.new) rule) }
     {
         let address = address_of(memory, word);
         let next = memory.fetch(address).wrapping_add(1);

@@ -14,10 +14,10 @@ use memory::Memory;
 impl CycleComputer {
     /// Makes cycles until n are made or S is down. Answers how many, and their clocks.
     fn cycles<M: Memory, L: Line>(&mut self, memory: &mut M, line: &mut L, n: u16) -> (u16, u32)
-        ensures made { result.0 ≡ (ran n (cycle_board self.old (contents memory.old) (replies line.old))).cycles }
-        ensures clocks { result.1 ≡ (ran n (cycle_board self.old (contents memory.old) (replies line.old))).clocks }
-        ensures board { cycle_board self.new (contents memory.new) (replies line.new) ≡ (ran n (cycle_board self.old (contents memory.old) (replies line.old))).after }
-        ensures law { size (contents memory.old) ≡ 4096 → CycleByCycle n (cycle_board self.old (contents memory.old) (replies line.old)) (as_ran result (cycle_board self.new (contents memory.new) (replies line.new))) }
+        ensures made { result.0 ≡ (ran n (cycle_board self.old (M.contents memory.old) (L.replies line.old))).cycles }
+        ensures clocks { result.1 ≡ (ran n (cycle_board self.old (M.contents memory.old) (L.replies line.old))).clocks }
+        ensures board { cycle_board self.new (M.contents memory.new) (L.replies line.new) ≡ (ran n (cycle_board self.old (M.contents memory.old) (L.replies line.old))).after }
+        ensures law { size (M.contents memory.old) ≡ 4096 → CycleByCycle n (cycle_board self.old (M.contents memory.old) (L.replies line.old)) (as_ran result (cycle_board self.new (M.contents memory.new) (L.replies line.new))) }
     {
         let mut clocks: u32 = 0;
         for made in 0..n {
@@ -36,9 +36,9 @@ impl CycleComputer {
         line: &mut L,
         n: u16,
     ) -> Result<(u16, u32), Refusal>
-        ensures outcome { outcome result ≡ (on_run n (cycle_board self.old (contents memory.old) (replies line.old))).outcome }
-        ensures after { cycle_board self.new (contents memory.new) (replies line.new) ≡ (on_run n (cycle_board self.old (contents memory.old) (replies line.old))).after }
-        ensures law { LawfulRun n (cycle_board self.old (contents memory.old) (replies line.old)) result (cycle_board self.new (contents memory.new) (replies line.new)) }
+        ensures outcome { outcome result ≡ (on_run n (cycle_board self.old (M.contents memory.old) (L.replies line.old))).outcome }
+        ensures after { cycle_board self.new (M.contents memory.new) (L.replies line.new) ≡ (on_run n (cycle_board self.old (M.contents memory.old) (L.replies line.old))).after }
+        ensures law { LawfulRun n (cycle_board self.old (M.contents memory.old) (L.replies line.old)) result (cycle_board self.new (M.contents memory.new) (L.replies line.new)) }
         ensures refusal { is_err result ≡ true → (self.new ≡ self.old) × (memory.new ≡ memory.old) × (line.new ≡ line.old) }
     {
         if memory.size() != 4096 {

@@ -12,9 +12,9 @@ pub returns : goal.returns
 returns c =
     let word = c.args.word in
     let fits : word < 65536 = omega arith in
-    let is = sym c.row-of-word.ensures in
+    let is = sym c.row_of_word.ensures in
     record {
-      text = c.row-of-word.ensures;
+      text = c.row_of_word.ensures;
       back = subst (λ (text : List ℕ). AssemblesBack word text) is (assembles-back word fits);
       alone = subst (λ (text : List ℕ). LaysWords (word ∷ []) (text ++ 10 ∷ ending)) is (lays-words (word ∷ []) (fits, tt) (omega arith));
       hex = subst (λ (text : List ℕ). begins_with_hex text ≡ not (listed word)) is (hex-or-listed word);

@@ -10,7 +10,7 @@ loop-byte-preserved c = piece-more escaped_byte _ _ _ _ _ _ c.loop-byte-test.tru
 
 pub returns : goal.returns
 returns c =
-    let bytes = All-from_get_or (λ byte. byte < 256) c.args.bytes.now 0 (λ i _. omega (arith, c.type-inv.bytes i)) in
+    let bytes = All-from_get_or (λ byte. byte < 256) c.args.bytes.now 0 (λ i _. omega (arith, c.type_inv.bytes i)) in
     let whole = piece-all escaped_byte _ _ _ _ c.loop-byte-test.false c.loop-byte.invariant in
     record {
       text = whole;

@@ -24,13 +24,13 @@ loop-placed-preserved c =
     let records = c.loop-placed.self.records.now in
     let behind = ahead c.step.new.self in
     let leads : ahead c.loop-placed.walk ≡ placed c.in-Lays.placed behind = search rules in
-    let t = more (length first) first records c.loop-placed.n c.in-Lays.placed behind c.loop-placed.invariant.1 c.loop-placed.invariant.2 c.enter.new.self.records.now c.in-ok-n.n c.in-ok-n.ensures.answer c.in-ok-n.ensures.records in (
+    let t = more (length first) first records c.loop-placed.n c.in-Lays.placed behind c.loop-placed.invariant.1 c.loop-placed.invariant.2 c.enter.new.self.records.now c.in_ok-n-in-Lays.n c.in_ok-n-in-Lays.ensures.answer c.in_ok-n-in-Lays.ensures.records in (
       c.loop-placed.invariant.0 ∙ ap (taking (length first) _) leads ∙ t.0,
       t.1,
-      c.in-ok-n.ensures.sized ∙ c.loop-placed.invariant.2,
-      c.in-ok-n.ensures.within.1,
-      omega (arith, c.in-ok-n.ensures.within.0, c.in-ok-n.ensures.count),
-      c.in-ok-n.ensures.labels ∙ c.loop-placed.invariant.5,
-      c.in-ok-n.ensures.count ∙ c.loop-placed.invariant.6,
-      c.in-ok-n.ensures.lent ∙ c.loop-placed.invariant.7,
+      c.in_ok-n-in-Lays.ensures.sized ∙ c.loop-placed.invariant.2,
+      c.in_ok-n-in-Lays.ensures.within.1,
+      omega (arith, c.in_ok-n-in-Lays.ensures.within.0, c.in_ok-n-in-Lays.ensures.count),
+      c.in_ok-n-in-Lays.ensures.labels ∙ c.loop-placed.invariant.5,
+      c.in_ok-n-in-Lays.ensures.count ∙ c.loop-placed.invariant.6,
+      c.in_ok-n-in-Lays.ensures.lent ∙ c.loop-placed.invariant.7,
     )
