@@ -51,7 +51,7 @@ pub(crate) fn read_options(words: &[String]) -> Asked<'_> {
     let mut rest = words;
     while let [option, others @ ..] = rest {
         let [value, behind @ ..] = others else {
-            return if option == "--help" {
+            return if option.as_str() == "--help" {
                 Asked::Help
             } else {
                 Asked::Unknown(option.as_str())

@@ -62,7 +62,7 @@ fn try_words(rt: &HostRuntime, words: &[String], tally: &mut Tally) -> anyhow::R
                     return Ok(false);
                 };
                 rest = others;
-                if word == "--seed" {
+                if word.as_str() == "--seed" {
                     seed = value;
                 } else {
                     try_random(rt, seed, value)?;

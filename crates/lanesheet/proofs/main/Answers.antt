@@ -8,5 +8,5 @@ use Rattle.lanesheet.proofs.main.Goals as goal
 pub unreachable-requires : goal.unreachable-requires
 unreachable-requires c =
     let sized : length (vec_items c.new-memory.result.words) ≡ 4096 = search rules in
-    let refused : c.in-ok-laid.field-0 ≡ Err MemorySize = search rules in
-    well-sized 512 (holding (vec_items c.new-memory.result.words)) c.as-slice.result.now sized (sym c.in-ok-laid.ensures.answer ∙ refused)
+    let refused : c.in_ok-laid.field-0 ≡ Err MemorySize = search rules in
+    well-sized 512 (holding (vec_items c.new-memory.result.words)) c.as_slice.result.now sized (sym c.in_ok-laid.ensures.answer ∙ refused)

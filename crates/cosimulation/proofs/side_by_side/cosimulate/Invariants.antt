@@ -7,9 +7,9 @@ use Rattle.cosimulation.proofs.side_by_side.cosimulate.Given as goal
 abbrev pub invariant-loop-call : goal.invariant-loop-call
 invariant-loop-call g l =
     (all_advanced (drop l.call-index l.calls)
-    (pair l.pair (g.MA.Memory.contents l.memory) (g.LA.Line.replies l.line) (g.MB.Memory.contents l.twin-memory) (g.LB.Line.replies l.twin-line))
+    (pair l.pair (g.MA.Memory.contents l.memory) (g.LA.Line.replies l.line) (g.MB.Memory.contents l.twin_memory) (g.LB.Line.replies l.twin_line))
     ≡ all_advanced l.calls
-    (new_pair (g.MA.Memory.contents l.initial.memory) (g.LA.Line.replies l.initial.line) (g.MB.Memory.contents l.initial.twin-memory) (g.LB.Line.replies l.initial.twin-line)))
+    (new_pair (g.MA.Memory.contents l.initial.memory) (g.LA.Line.replies l.initial.line) (g.MB.Memory.contents l.initial.twin_memory) (g.LB.Line.replies l.initial.twin_line)))
     × (vec_len l.pair.outcomes ≡ l.call-index)
     × (vec_len l.pair.twin_outcomes ≤ l.call-index)
     × (length l.calls ≤ vec_capacity l.pair.outcomes)
