@@ -1,8 +1,8 @@
 -- What a run made, counted clock by clock or cycle by cycle.
 use Rattle.std.specs.Prelude.{ℕ, ◌+◌, min, Bool, cond, ◌||◌, List, [], ◌∷◌, Ok, Err, Result, ◌==◌, nat_le, nat_lt}
 use Rattle.machine.specs.declared.refusal.Refusal.{Refusal}
-use Rattle.lanebench.specs.declared.counts.Counts.{Counts}
-use Rattle.lanebench.specs.declared.counts.Limit.{Limit}
+use Rattle.sessions.specs.declared.counts.Counts.{Counts}
+use Rattle.sessions.specs.declared.counts.Limit.{Limit}
 
 abbrev pub nothing : Counts
 nothing = record { cycles = 0; clocks = 0; interrupts = 0 }

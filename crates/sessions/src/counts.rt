@@ -1,6 +1,6 @@
 //! How much was made, and how much may be.
 ghost use Rattle.std.specs.Prelude.{◌≡◌};
-ghost use Rattle.lanebench.specs.Counting.{nothing, interrupt as Interrupt, cycle_counted, clock_counted, outcome_counted, outcomes_counted, reached};
+ghost use Rattle.sessions.specs.Counting.{nothing, interrupt as Interrupt, cycle_counted, clock_counted, outcome_counted, outcomes_counted, reached};
 
 use cosimulation::Outcome;
 use options::Options;
