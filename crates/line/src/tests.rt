@@ -35,10 +35,10 @@ fn script_by_the_table(rt: HostRuntime) -> Result<(), Fail> {
         reply(None, false),
     ];
     let replies = line.play(&statuses, rt.alloc())?;
-    assert!(rt; replies.as_slice() == &expected);
-    assert!(rt; line.printed() == b"xy");
+    assert!(rt; replies.as_slice() == expected.as_slice());
+    assert!(rt; line.printed() == b"xy".as_slice());
     assert!(rt; line.remaining().is_empty());
-    assert!(rt; line.into_paper().as_slice() == b"xy");
+    assert!(rt; line.into_paper().as_slice() == b"xy".as_slice());
     Ok(())
 }
 
@@ -65,7 +65,7 @@ fn paper_keeps_its_size(rt: HostRuntime) -> Result<(), Fail> {
         reply(Some(b'A'), true)
     );
     assert_eq!(rt; line.remaining().len(), 1);
-    assert!(rt; line.into_paper().as_slice() == b"a--");
+    assert!(rt; line.into_paper().as_slice() == b"a--".as_slice());
     Ok(())
 }
 
@@ -77,6 +77,7 @@ fn quiet_in_any_state(rt: HostRuntime) -> Result<(), Fail> {
         status(false, false, b'c'),
     ];
     let replies = play(&mut QuietLine, &statuses, rt.alloc())?;
-    assert!(rt; replies.as_slice() == &[reply(None, false), reply(None, true), reply(None, true)]);
+    let expected = [reply(None, false), reply(None, true), reply(None, true)];
+    assert!(rt; replies.as_slice() == expected.as_slice());
     Ok(())
 }

@@ -12,7 +12,10 @@ fn words_are_fetched_and_stored(rt: HostRuntime) -> Result<(), Fail> {
     assert_eq!(rt; memory.fetch(3), 0);
     memory.store(1, 0xABCD);
     memory.store(3, 0xFFFF);
-    assert_eq!(rt; memory.into_words().as_slice(), &[0x1111, 0xABCD, 0x3333]);
+    assert_eq!(rt;
+        memory.into_words().as_slice(),
+        [0x1111, 0xABCD, 0x3333].as_slice()
+    );
     Ok(())
 }
 
@@ -27,7 +30,7 @@ fn an_odd_last_byte_is_no_word(rt: HostRuntime) -> Result<(), Fail> {
     memory.store(2, 0xFFFF);
     assert_eq!(rt;
         memory.into_bytes().as_slice(),
-        &[0x12, 0x34, 0xAB, 0xCD, 0x9A]
+        [0x12, 0x34, 0xAB, 0xCD, 0x9A].as_slice()
     );
     Ok(())
 }

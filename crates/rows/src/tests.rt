@@ -55,8 +55,8 @@ fn cycle_under_its_heading(rt: HostRuntime) -> Result<(), Fail> {
     };
     let heading = b"AT  WORD INSTRUCTION PC  AC   E IEN R S FGI FGO INPR OUTR";
     let expected = b"104 1107 ADD 107     105 0012 1 0   0 1 0   1   0A   41";
-    assert!(rt; cycle_heading().as_bytes() == heading);
-    assert!(rt; cycle_row(rt.alloc(), row)?.as_slice() == expected);
+    assert!(rt; cycle_heading().as_bytes() == heading.as_slice());
+    assert!(rt; cycle_row(rt.alloc(), row)?.as_slice() == expected.as_slice());
     Ok(())
 }
 
@@ -69,30 +69,30 @@ fn clock_under_its_heading(rt: HostRuntime) -> Result<(), Fail> {
     };
     let heading = b"T INSTRUCTION SC AR  PC  DR   AC   IR   TR   I E IEN R S FGI FGO INPR OUTR";
     let expected = b"4 ADD 107     5  107 105 BEEF 0012 1107 0000 0 1 0   0 1 0   1   0A   41";
-    assert!(rt; clock_heading().as_bytes() == heading);
-    assert!(rt; clock_row(rt.alloc(), row)?.as_slice() == expected);
+    assert!(rt; clock_heading().as_bytes() == heading.as_slice());
+    assert!(rt; clock_row(rt.alloc(), row)?.as_slice() == expected.as_slice());
     Ok(())
 }
 
 #[test]
 fn registers_by_name(rt: HostRuntime) -> Result<(), Fail> {
     let seen = b"PC 105\nAC 0012\nE 1\nIEN 0\nR 0\nS 1\nFGI 0\nFGO 1\nINPR 0A\nOUTR 41\n";
-    assert!(rt; visible_lines(rt.alloc(), visible())?.as_slice() == seen);
+    assert!(rt; visible_lines(rt.alloc(), visible())?.as_slice() == seen.as_slice());
     let hidden = b"AR 107\nDR BEEF\nIR 1107\nTR 0000\nI 0\nSC 5\n";
-    assert!(rt; hidden_lines(rt.alloc(), registers())?.as_slice() == hidden);
+    assert!(rt; hidden_lines(rt.alloc(), registers())?.as_slice() == hidden.as_slice());
     Ok(())
 }
 
 #[test]
 fn word_of_memory(rt: HostRuntime) -> Result<(), Fail> {
-    assert!(rt; word_row(rt.alloc(), 0x100, 0x2107)?.as_slice() == b"100 2107");
+    assert!(rt; word_row(rt.alloc(), 0x100, 0x2107)?.as_slice() == b"100 2107".as_slice());
     Ok(())
 }
 
 #[test]
 fn bytes_that_do_not_print(rt: HostRuntime) -> Result<(), Fail> {
     let text = escaped(rt.alloc(), b"A ~\\\n\r\0\x7F\xFF")?;
-    assert!(rt; text.as_slice() == b"A ~\\\\\\n\\x0D\\x00\\x7F\\xFF");
+    assert!(rt; text.as_slice() == b"A ~\\\\\\n\\x0D\\x00\\x7F\\xFF".as_slice());
     Ok(())
 }
 
