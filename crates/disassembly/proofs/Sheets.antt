@@ -1,7 +1,7 @@
 -- A sheet of rows lays their words.
 use Rattle.std.proofs.Common.{◌≡◌, ℕ, ◌+◌, ◌*◌, ◌<◌, ◌≤◌, Bool, true, false, cond, eqb, List, [], ◌∷◌, ◌++◌, length, None, Ok, Err, Result, refl, ap, ◌∙◌, arith, length-append, eq-eqb, le-leb}
 use Rattle.std.proofs.lemmas.Bool.Decides.{nat_tests}
-use Rattle.std.specs.List.{AllByRecursion as All}
+use Rattle.std.specs.List.{AllByRecursion}
 use Rattle.fields.proofs.Outcomes.{both_true, clash}
 use Rattle.fields.specs.declared.fault.FieldFault.TheVariants.{BadByte}
 use Rattle.fields.specs.Fields.{all_plain, fields_of, plain}
@@ -45,7 +45,7 @@ read_plain : (line : ℕ) (text : List ℕ) (s : Statement) → line_statement l
 read_plain line text s h = plain_by line text s (all_plain text) h
 
 abbrev pub Words : List ℕ → Type 0
-Words words = All (λ word. word < 65536) words
+Words words = AllByRecursion (λ word. word < 65536) words
 
 -- the first line of a sheet of rows
 row_first : (word : ℕ) (rest : List ℕ) → word < 65536 → lines_of (disassembled word ++ 10 ∷ rest) ≡ disassembled word ∷ lines_of rest

@@ -5,7 +5,7 @@ use Rattle.rows.specs.Escapes.{prints, escaped_byte, escaped_of, Printable}
 use Rattle.std.proofs.ByRecursion.{All-append}
 use Rattle.std.proofs.lemmas.Bool.{cond_both, cond-false, eqb-true, leb-true, ltb-true, and_parts}
 use Rattle.std.proofs.lemmas.Bool.Decides.{nat_tests}
-use Rattle.std.specs.List.{AllByRecursion as All}
+use Rattle.std.specs.List.{AllByRecursion}
 
 abbrev Prints : ℕ → Type 0
 Prints byte = (32 ≤ byte) × (byte ≤ 126)
@@ -67,7 +67,7 @@ read-escaped byte rest h =
     (λ _. ap with_rest (value-byte byte h))))
 
 abbrev Bytes : List ℕ → Type 0
-Bytes bytes = All (λ byte. byte < 256) bytes
+Bytes bytes = AllByRecursion (λ byte. byte < 256) bytes
 
 pub escaped-tells : (bytes other : List ℕ) → Bytes bytes → Bytes other → escaped_of other ≡ escaped_of bytes → other ≡ bytes
 escaped-tells [] [] hs ks e = refl

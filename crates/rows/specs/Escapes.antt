@@ -1,7 +1,7 @@
 -- Bytes of any kind as text that prints.
 use Rattle.std.specs.Prelude.{◌≡◌, ℕ, ◌<◌, ◌≤◌, Bool, cond, ◌&&◌, List, [], ◌∷◌, codes, ◌==◌, nat_le}
 use Rattle.digits.specs.Digits.{byte_digits}
-use Rattle.std.specs.List.{flat_map, AllByRecursion as All}
+use Rattle.std.specs.List.{flat_map, AllByRecursion}
 
 -- A byte that stands for itself, if it is no backslash.
 abbrev pub prints : ℕ → Bool
@@ -17,8 +17,8 @@ escaped_of bytes = flat_map escaped_byte bytes
 
 -- Every byte of a text prints.
 abbrev pub Printable : List ℕ → Type 0
-Printable text = All (λ byte. (32 ≤ byte) × (byte ≤ 126)) text
+Printable text = AllByRecursion (λ byte. (32 ≤ byte) × (byte ≤ 126)) text
 
 -- The text tells the bytes: it is the text of no others.
 abbrev pub Tells : List ℕ → List ℕ → Type 0
-Tells text bytes = (other : List ℕ) → All (λ byte. byte < 256) other → escaped_of other ≡ text → other ≡ bytes
+Tells text bytes = (other : List ℕ) → AllByRecursion (λ byte. byte < 256) other → escaped_of other ≡ text → other ≡ bytes

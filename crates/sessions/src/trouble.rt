@@ -63,21 +63,21 @@ fn tell_words(rt: &HostRuntime, words: &[String], fault: OptionFault) -> io::Res
     match fault {
         OptionFault::Unknown(place) => {
             let word = word_at(words, place);
-            println!(rt; "lanebench: there is no option {word}; --help lists them")
+            println!(rt; "sessions: there is no option {word}; --help lists them")
         }
         OptionFault::NoValue(place) => {
             let word = word_at(words, place);
-            println!(rt; "lanebench: {word} wants a value behind it; --help says which")
+            println!(rt; "sessions: {word} wants a value behind it; --help says which")
         }
         OptionFault::BadValue(place) => {
             let word = word_at(words, place);
             println!(rt;
-                "lanebench: {word} is not a value that its option takes; --help says which it takes"
+                "sessions: {word} is not a value that its option takes; --help says which it takes"
             )
         }
         OptionFault::SecondSheet(place) => {
             let word = word_at(words, place);
-            println!(rt; "lanebench: {word} is a second sheet, and one is tried at a time")
+            println!(rt; "sessions: {word} is a second sheet, and one is tried at a time")
         }
     }
 }
@@ -86,16 +86,16 @@ fn tell_words(rt: &HostRuntime, words: &[String], fault: OptionFault) -> io::Res
 fn tell_file(rt: &HostRuntime, name: &str, trouble: &Trouble) -> io::Result<()> {
     match trouble {
         Trouble::Unreadable(_) => println!(rt;
-            "lanebench: {name} cannot be read: is it there, and is it a file?"
+            "sessions: {name} cannot be read: is it there, and is it a file?"
         ),
         Trouble::Unwritable(_) => println!(rt;
-            "lanebench: {name} cannot be written, so nothing is saved"
+            "sessions: {name} cannot be written, so nothing is saved"
         ),
         Trouble::ImageSize(_, bytes) => println!(rt;
-            "lanebench: {name} has {bytes} bytes, and a memory image has 8192: two for each of 4096 words"
+            "sessions: {name} has {bytes} bytes, and a memory image has 8192: two for each of 4096 words"
         ),
         Trouble::NoRecord(_, line) => println!(rt;
-            "lanebench: line {line} of {name} is no record: a wait up to 65535, a space and a character"
+            "sessions: line {line} of {name} is no record: a wait up to 65535, a space and a character"
         ),
         Trouble::Refused(_, report) => {
             let Report {
@@ -105,7 +105,7 @@ fn tell_file(rt: &HostRuntime, name: &str, trouble: &Trouble) -> io::Result<()> 
             } = *report;
             let meaning = meaning(number);
             println!(rt;
-                "lanebench: {name} is refused with {number} on line {line}, layer {layer}: {meaning}"
+                "sessions: {name} is refused with {number} on line {line}, layer {layer}: {meaning}"
             )
         }
         _ => Ok(()),
@@ -117,9 +117,9 @@ impl Trouble {
     pub(crate) fn tell(&self, rt: &HostRuntime, words: &[String]) -> io::Result<()> {
         match self {
             Trouble::Words(fault) => tell_words(rt, words, *fault),
-            Trouble::Together(text) => println!(rt; "lanebench: {text}"),
+            Trouble::Together(text) => println!(rt; "sessions: {text}"),
             Trouble::NoMemory => println!(rt;
-                "lanebench: there is not enough memory for this: ask for less paper, or for fewer clocks of both benches"
+                "sessions: there is not enough memory for this: ask for less paper, or for fewer clocks of both benches"
             ),
             Trouble::Silent => Ok(()),
             Trouble::Unreadable(place)

@@ -1,7 +1,7 @@
 //! What the program can be asked for.
 
 pub(crate) const USAGE: &str =
-    "usage: lanebench SHEET [options]        tries a program sheet on a bench
+    "usage: sessions SHEET [options]        tries a program sheet on a bench
 
 how
   --clock           clock by clock; by whole instructions unless told
