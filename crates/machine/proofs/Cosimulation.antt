@@ -14,7 +14,7 @@ use Rattle.machine.proofs.Characters.{character_stays}
 use Rattle.machine.proofs.Invariant.{invariant-kept}
 
 -- what is left of both runs, from p on
-record Goes_on (calls : List Call) (p q : Pair) : Type 0 where
+record GoesOn (calls : List Call) (p q : Pair) : Type 0 where
   computer : q.computer ≡ after_all on_clocked calls p.computer
   outcomes : q.outcomes ≡ p.outcomes ++ outcomes_of (made on_clocked calls p.computer)
   inside : q.inside ≡ inside_at_end p.inside (made on_clocked calls p.computer)
@@ -37,7 +37,7 @@ twin-returns : (out : Bool) (m : Made) (ms : List Made) (t : CycleBoard) (os : L
 twin-returns true m ms t os = refl
 twin-returns false m ms t os = append_assoc os ((on_cycled m.call t).outcome ∷ []) _
 
-goes_on : (calls : List Call) (p : Pair) → Goes_on calls p (all_advanced calls p)
+goes_on : (calls : List Call) (p : Pair) → GoesOn calls p (all_advanced calls p)
 goes_on [] p = record {
   computer = refl;
   outcomes = sym (append-nil p.outcomes);

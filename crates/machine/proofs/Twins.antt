@@ -53,8 +53,8 @@ Goes i xs b t =
     → seen (after_all on_clocked xs b) ≡ after_all on_cycled (calls_of (short_list i (made on_clocked xs b))) t)
 
 -- `rest` is the short list of what comes after the call m, which is struck out or not
-abbrev Goes_on : Bool → Made → List Made → Bool → ClockBoard → CycleBoard → Type 0
-Goes_on out m rest inside b t =
+abbrev GoesOn : Bool → Made → List Made → Bool → ClockBoard → CycleBoard → Type 0
+GoesOn out m rest inside b t =
     (made on_cycled (calls_of (cond out rest (m ∷ rest))) t ≡ cond out rest (m ∷ rest))
     × (inside ≡ false → seen b ≡ after_all on_cycled (calls_of (cond out rest (m ∷ rest))) t)
 
@@ -70,11 +70,11 @@ goes one (x ∷ xs) i b t h =
     let ms = made on_clocked xs b' in
     elim (one i x b t h) [
       | inl k ↦
-          subst (λ (out : Bool). Goes_on out m (short_list j ms) (inside_at_end j ms) (after_all on_clocked xs b') t) (sym k.0)
+          subst (λ (out : Bool). GoesOn out m (short_list j ms) (inside_at_end j ms) (after_all on_clocked xs b') t) (sym k.0)
           (goes one xs j b' t k.1)
       | inr k ↦
           let g = goes one xs j b' (on_cycled x t).after k.2 in
-          subst (λ (out : Bool). Goes_on out m (short_list j ms) (inside_at_end j ms) (after_all on_clocked xs b') t) (sym k.0)
+          subst (λ (out : Bool). GoesOn out m (short_list j ms) (inside_at_end j ms) (after_all on_clocked xs b') t) (sym k.0)
           (λ a. record { call = x; outcome = k.1 a } ∷ g.0 a, g.1)
     ]
 
