@@ -4,7 +4,7 @@ ghost use Rattle.line.specs.Rules.{Alike};
 ghost use Rattle.machine.specs.Calls.{on_cycled};
 ghost use Rattle.machine.specs.Cosimulation.{advanced, Runs, Lawful};
 ghost use Rattle.cycle_bench.specs.CycleComputers.{cycle_board};
-ghost use Rattle.cosimulation.specs.Pairs.{outcomes as outcomesOf, pair as pair_of};
+ghost use Rattle.cosimulation.specs.Pairs.{outcomes as outcomes_of, pair as pair_of};
 
 use crate::cosimulation::{Cosimulation, Outcome};
 use crate::short_list::{is_inside, is_struck};
@@ -26,7 +26,7 @@ fn follow<M: Memory, L: Line>(
 )
     requires { vec_len outcomes.old < vec_capacity outcomes.old }
     ensures board { cycle_board twin.new (M.Memory.contents memory.new) (L.Line.replies line.new) ≡ (if struck then cycle_board twin.old (M.Memory.contents memory.old) (L.Line.replies line.old) else (on_cycled call (cycle_board twin.old (M.Memory.contents memory.old) (L.Line.replies line.old))).after) }
-    ensures outcomes { outcomesOf outcomes.new.items ≡ (if struck then outcomesOf outcomes.old.items else outcomesOf outcomes.old.items ++ ((on_cycled call (cycle_board twin.old (M.Memory.contents memory.old) (L.Line.replies line.old))).outcome ∷ [])) }
+    ensures outcomes { outcomes_of outcomes.new.items ≡ (if struck then outcomes_of outcomes.old.items else outcomes_of outcomes.old.items ++ ((on_cycled call (cycle_board twin.old (M.Memory.contents memory.old) (L.Line.replies line.old))).outcome ∷ [])) }
     ensures len { vec_len outcomes.new ≤ vec_len outcomes.old + 1 }
     ensures capacity { vec_capacity outcomes.new ≡ vec_capacity outcomes.old }
 {

@@ -1,6 +1,6 @@
 //! The beats of a line at a port.
 ghost use Rattle.std.specs.Prelude.{◌≡◌};
-ghost use Rattle.machine.specs.Beat.{applied, beat as Beat, beats as Beats};
+ghost use Rattle.machine.specs.Beat.{applied, beat, beats};
 ghost use Rattle.cycle_bench.specs.Ports.{connected};
 
 use line::{Line, Reply, Status};
@@ -21,7 +21,7 @@ fn apply(port: &mut Port, reply: Reply)
 
 /// One beat.
 pub(crate) fn beat<L: Line>(port: &mut Port, line: &mut L)
-    ensures { connected port.new (L.replies line.new) ≡ Beat (connected port.old (L.replies line.old)) }
+    ensures { connected port.new (L.replies line.new) ≡ beat (connected port.old (L.replies line.old)) }
 {
     let reply = line.beat(Status {
         fgi: port.fgi,
@@ -33,7 +33,7 @@ pub(crate) fn beat<L: Line>(port: &mut Port, line: &mut L)
 
 /// Some beats.
 pub(crate) fn beats<L: Line>(port: &mut Port, line: &mut L, n: u8)
-    ensures { connected port.new (L.replies line.new) ≡ Beats n (connected port.old (L.replies line.old)) }
+    ensures { connected port.new (L.replies line.new) ≡ beats n (connected port.old (L.replies line.old)) }
 {
     for i in 0..n {
         beat(port, line);

@@ -1,6 +1,6 @@
 //! How much was made, and how much may be.
 ghost use Rattle.std.specs.Prelude.{◌≡◌};
-ghost use Rattle.sessions.specs.Counting.{nothing, interrupt as Interrupt, cycle_counted, clock_counted, outcome_counted, outcomes_counted, reached};
+ghost use Rattle.sessions.specs.Counting.{nothing, interrupt, cycle_counted, clock_counted, outcome_counted, outcomes_counted, reached};
 
 use cosimulation::Outcome;
 use options::Options;
@@ -34,7 +34,7 @@ pub enum Stop {
 
 /// 1 for an interrupt cycle, which is the one of three clocks.
 fn interrupt(clocks: u16) -> u64
-    ensures { result ≡ Interrupt clocks }
+    ensures { result ≡ interrupt clocks }
 {
     if clocks == 3 { 1 } else { 0 }
 }

@@ -1,7 +1,7 @@
 //! One cycle.
 ghost use Rattle.std.specs.Prelude.{◌≡◌, ◌≤◌, true, is_err};
 ghost use Rattle.machine.specs.declared.call.Call.TheVariants.{Clock};
-ghost use Rattle.machine.specs.Cycle.{clocks as Clocks, cycled};
+ghost use Rattle.machine.specs.Cycle.{clocks, cycled};
 ghost use Rattle.machine.specs.Calls.{outcome, on_cycled};
 ghost use Rattle.cycle_bench.specs.CycleComputers.{cycle_board, BeforeLastBeat};
 
@@ -25,7 +25,7 @@ impl CycleComputer {
 
     /// A whole cycle. Answers its clocks.
     pub(super) fn whole_cycle<M: Memory, L: Line>(&mut self, memory: &mut M, line: &mut L) -> u16
-        ensures clocks { result ≡ Clocks (cycle_board self.old (M.contents memory.old) (L.replies line.old)) }
+        ensures clocks { result ≡ clocks (cycle_board self.old (M.contents memory.old) (L.replies line.old)) }
         ensures most { result ≤ 7 }
         ensures board { cycle_board self.new (M.contents memory.new) (L.replies line.new) ≡ cycled (cycle_board self.old (M.contents memory.old) (L.replies line.old)) }
     {

@@ -1,6 +1,6 @@
 //! The marks of a word of opcode 7 with bit 15 up. All read the registers as they stood before.
 ghost use Rattle.std.specs.Prelude.{◌≡◌};
-ghost use Rattle.machine.specs.Words.{bit as Bit};
+ghost use Rattle.machine.specs.Words.{bit};
 ghost use Rattle.machine.specs.Parts.{flip_flop};
 ghost use Rattle.machine.specs.Table.{port_skip, port_marks};
 ghost use Rattle.cycle_bench.specs.CycleComputers.{registers_of};
@@ -18,7 +18,7 @@ impl CycleComputer {
 
     /// IEN after ION and IOF, which together turn it over.
     fn marked_ien(&self, word: u16) -> bool
-        ensures { result ≡ flip_flop (Bit 7 word) (Bit 6 word) self.now.ien }
+        ensures { result ≡ flip_flop (bit 7 word) (bit 6 word) self.now.ien }
     {
         match bit!(word, 7) {
             true if bit!(word, 6) => !self.ien,

@@ -2,7 +2,7 @@
 ghost use Rattle.std.specs.Prelude.{◌≡◌, ◌<◌};
 ghost use Rattle.memory.specs.Contents.{fetched};
 ghost use Rattle.line.specs.Rules.{Rule};
-ghost use Rattle.machine.specs.Table.{address as Address, AND, ADD, LDA, STA, BUN, BSA, ISZ};
+ghost use Rattle.machine.specs.Table.{address, AND, ADD, LDA, STA, BUN, BSA, ISZ};
 ghost use Rattle.cycle_bench.specs.CycleComputers.{cycle_board, CarriedOut};
 
 use crate::cycle_computer::CycleComputer;
@@ -11,7 +11,7 @@ use memory::Memory;
 
 /// The address of a word: its low 12 bits, or with bit 15 up those of the word there.
 fn address_of<M: Memory>(memory: &M, word: u16) -> u16
-    ensures value { result ≡ Address (M.contents memory.now) word }
+    ensures value { result ≡ address (M.contents memory.now) word }
     ensures fits { result < 4096 }
 {
     let address = word % 4096;
@@ -24,7 +24,7 @@ fn address_of<M: Memory>(memory: &M, word: u16) -> u16
 
 /// The word at that address.
 fn operand_of<M: Memory>(memory: &M, word: u16) -> u16
-    ensures { result ≡ fetched (M.contents memory.now) (Address (M.contents memory.now) word) }
+    ensures { result ≡ fetched (M.contents memory.now) (address (M.contents memory.now) word) }
 {
     memory.fetch(address_of(memory, word))
 }

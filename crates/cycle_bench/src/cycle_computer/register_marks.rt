@@ -1,6 +1,6 @@
 //! The marks of a word of opcode 7 with bit 15 down. All read the registers as they stood before.
 ghost use Rattle.std.specs.Prelude.{◌≡◌, bit_or};
-ghost use Rattle.machine.specs.Words.{bit as Bit, complement, circulated_right, circulated_left};
+ghost use Rattle.machine.specs.Words.{bit, complement, circulated_right, circulated_left};
 ghost use Rattle.machine.specs.Parts.{source};
 ghost use Rattle.machine.specs.Table.{marked_ac, marked_e, register_skip, register_marks};
 ghost use Rattle.cycle_bench.specs.CycleComputers.{registers_of};
@@ -11,7 +11,7 @@ use crate::words::{bit, choose, skipped};
 impl CycleComputer {
     /// What CMA, CIR and CIL bring to AC, put together.
     fn sources(&self, word: u16) -> u16
-        ensures { result ≡ bit_or (bit_or (source (Bit 9 word) (complement self.now.ac)) (source (Bit 7 word) (circulated_right self.now.e self.now.ac))) (source (Bit 6 word) (circulated_left self.now.e self.now.ac)) }
+        ensures { result ≡ bit_or (bit_or (source (bit 9 word) (complement self.now.ac)) (source (bit 7 word) (circulated_right self.now.e self.now.ac))) (source (bit 6 word) (circulated_left self.now.e self.now.ac)) }
     {
         let complement = 65535 - self.ac;
         let right = self.ac / 2 + choose(self.e, 32768, 0);
