@@ -3,7 +3,7 @@
 //! usage: baseline cycles|clocks IMAGE FROM COUNT [INPUT [WAIT]]
 //!
 //! Runs the memory image from an address for so many cycles or clocks, or until it halts, and prints the registers, what was
-//! printed, and the counts, in the words of lanebench. How long it took goes to standard error.
+//! printed, and the counts, in the words of sessions. How long it took goes to standard error.
 use std::time::Instant;
 
 trait Memory {
