@@ -1,4 +1,5 @@
 pub mod Beat
+pub mod Beating
 pub mod Ends
 pub mod References
 pub mod Marks

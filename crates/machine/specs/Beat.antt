@@ -36,6 +36,9 @@ pub record Connection : Type 0 where
   pub port : Port
   pub rule : Rule
 
+abbrev pub connected : Port → Rule → Connection
+connected port rule = record { port = port; rule = rule }
+
 -- one beat, and some
 unfoldable pub beat : Connection → Connection
 beat x = record {

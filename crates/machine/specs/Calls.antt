@@ -1,5 +1,5 @@
 -- The calls on the two computers, what they answer, and why they are turned down.
-use Rattle.std.specs.Prelude.{ℕ, Bool, true, cond, not, List, [], ◌∷◌, Some, None, Ok, Err, Option, Result, ◌==◌, nat_lt}
+use Rattle.std.specs.Prelude.{◌≡◌, ℕ, Bool, true, false, cond, not, List, [], ◌∷◌, Some, None, Ok, Err, Option, Result, ◌==◌, nat_lt}
 use Rattle.memory.specs.Contents.{Contents, size, fetched, stored}
 use Rattle.machine.specs.declared.refusal.Refusal.{Refusal}
 use Rattle.machine.specs.declared.refusal.Refusal.TheVariants.{MemorySize, AddressRange, Stopped, Running}
@@ -43,6 +43,11 @@ stopped s = record { holds = not s; refusal = number Stopped }
 
 abbrev pub running : Bool → Cause
 running s = record { holds = s; refusal = number Running }
+
+-- what a check of a cause gives: nothing where it does not hold, and else its refusal
+abbrev pub Checked : Cause → Result (Unit {0}) Refusal → Type 0
+Checked cause (Ok _) = cause.holds ≡ false
+Checked cause (Err refusal) = (cause.holds ≡ true) × (number refusal ≡ cause.refusal)
 
 -- causes are tried in order, and the first that holds counts
 abbrev pub first : List Cause → Option ℕ

@@ -2,10 +2,15 @@
 #![tactic(auto)]
 
 pub mod call;
+pub mod cause;
+pub mod computer;
+mod port;
 pub mod refusal;
 pub mod registers;
 pub mod theorems;
+pub mod word;
 
 pub use call::Call;
+pub use computer::Computer;
 pub use refusal::Refusal;
 pub use registers::{Port, Registers, Visible};

@@ -1,4 +1,6 @@
 //! The registers of the computer. A flip-flop is up when it holds 1.
+ghost use Rattle.std.specs.Prelude.{◌≡◌};
+ghost use Rattle.machine.specs.Boards.{visible_of};
 
 /// The registers between the processor and its line.
 #[derive(Clone, Copy, Debug, PartialEq, Eq)]
@@ -53,4 +55,20 @@ pub struct Visible {
     pub r: bool,
     pub s: bool,
     pub port: Port,
+}
+
+impl From<Registers> for Visible {
+    ghost from_gives = { λ registers r. r ≡ visible_of registers };
+
+    fn from(registers: Registers) -> Visible {
+        Visible {
+            ac: registers.ac,
+            e: registers.e,
+            pc: registers.pc,
+            ien: registers.ien,
+            r: registers.r,
+            s: registers.s,
+            port: registers.port,
+        }
+    }
 }
