@@ -1,14 +1,12 @@
 -- The clocks at T3 and T5 that do not compute alone: the sources of AC are joined by an or of many words.
-use Rattle.std.proofs.Common.{◌≡◌, ℕ, Bool, true, false, cond, not, ◌&&◌, ◌||◌, eqb, sym, refl, ap, ◌∙◌, subst, ap₂}
+use Rattle.std.proofs.Common.{◌≡◌, ℕ, Bool, true, false, cond, not, ◌&&◌, ◌||◌, sym, refl, ap, ◌∙◌, subst, ap₂}
 use lib.Bits.{bit_and, bit_or, or_zero_r}
 use Rattle.memory.specs.Contents.{Contents}
 use Rattle.line.specs.Rules.{Rule}
 use Rattle.machine.specs.declared.registers.Registers.{Registers}
 use Rattle.machine.specs.Words.{bit, opcode, low8, up12, sum16, carry, with_character}
-use Rattle.machine.specs.Boards.{visible_of}
-use Rattle.machine.specs.Table.{register_marks}
 use Rattle.machine.specs.Clock.{moved_at, transferred_at}
-use Rattle.clock_bench.specs.ClockComputers.{Moves, with_registers, raised, loaded, register_marked, port_marked}
+use Rattle.clock_bench.specs.ClockComputers.{Moves, with_registers, raised, loaded, port_marked}
 
 or-false : (b : Bool) → b ≡ (b || false)
 or-false true = refl
@@ -63,26 +61,6 @@ module _ (c : Registers) (contents : Contents) (rule : Rule) where
   abbrev At3 : (Registers → Registers) → Registers → Type 0
   At3 f x = f x ≡ (moved_at 3 7 (with_registers x contents rule)).registers
 
-  register-3 : c.i ≡ false → At3 register_marked c
-  register-3 h =
-      subst (At3 register_marked) (ap (with_i c) (sym h))
-      (λ j. record {
-        ar = c.ar;
-        pc = cond (or-false (bit 4 w && not (bit 15 c.ac) || bit 3 w && bit 15 c.ac || bit 2 w && eqb c.ac 0 || bit 1 w && not c.e) j)
-            (up12 c.pc) c.pc;
-        dr = c.dr;
-        ac = (register_marks w (visible_of c)).ac;
-        ir = w;
-        tr = c.tr;
-        sc = 0;
-        e = (register_marks w (visible_of c)).e;
-        i = false;
-        r = raised c;
-        s = (register_marks w (visible_of c)).s;
-        ien = c.ien;
-        port = c.port;
-      })
-
   port-3 : c.i ≡ true → At3 port_marked c
   port-3 h =
       subst (At3 port_marked) (ap (with_i c) (sym h))
@@ -125,9 +103,6 @@ module _ (c next : Registers) (contents : Contents) where
 
   pub lda-moves : opcode c.ir ≡ 2 → next ≡ loaded c.dr c.e c → Moves 5 c contents next contents
   lda-moves h e = at-opcode 5 2 h (λ rule. only rule (e ∙ lda-5 c 0))
-
-  pub register-moves : opcode c.ir ≡ 7 → c.i ≡ false → next ≡ register_marked c → Moves 3 c contents next contents
-  register-moves h i e = at-opcode 3 7 h (λ rule. only rule (e ∙ register-3 c contents rule i))
 
   pub port-moves : opcode c.ir ≡ 7 → c.i ≡ true → next ≡ port_marked c → Moves 3 c contents next contents
   port-moves h i e = at-opcode 3 7 h (λ rule. only rule (e ∙ port-3 c contents rule i))

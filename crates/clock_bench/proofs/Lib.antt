@@ -1,3 +1,2 @@
 pub mod ClockSignals
 pub mod ClockTransfers
-pub mod ClockBeats

@@ -1,6 +1,5 @@
 //! The computer that is clocked.
 mod beat;
-mod clock;
 mod examination;
 mod execution;
 mod fetching;
@@ -8,8 +7,8 @@ mod indirection;
 mod interrupt;
 mod marks;
 mod panel;
-mod perform;
 mod registers;
+mod tick;
 mod transfers;
 mod visible;
 

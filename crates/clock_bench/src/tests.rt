@@ -1,7 +1,7 @@
 //! Examples, worked out by hand.
 use crate::ClockComputer;
 use line::QuietLine;
-use machine::Refusal;
+use machine::{Computer, Refusal};
 use memory::{Memory, WordMemory};
 use std::alloc::Global;
 use std::process::Abort;

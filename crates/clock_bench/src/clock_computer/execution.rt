@@ -7,12 +7,13 @@ ghost use Rattle.clock_bench.specs.ClockComputers.{Moves, loaded};
 
 use crate::clock_computer::interrupt::raised;
 use machine::Registers;
+use machine::word::up12;
 use memory::Memory;
 
 // STA: M[AR] ← AC. BUN: PC ← AR. BSA: M[AR] ← PC, AR ← AR + 1. The others: DR ← M[AR].
 pub(super) fn t4<M: Memory>(old: Registers, memory: &mut M) -> Registers
-    requires { (old.ar < 4096) × (opcode old.ir < 7) }
-    ensures { Moves 4 old (M.Memory.contents memory.old) result (M.Memory.contents memory.new) }
+    requires { opcode old.ir < 7 }
+    ensures { Moves 4 old (M.contents memory.old) result (M.contents memory.new) }
 {
     let r = raised(old);
     match old.ir / 4096 % 8 {
@@ -29,7 +30,7 @@ pub(super) fn t4<M: Memory>(old: Registers, memory: &mut M) -> Registers
         5 => {
             memory.store(old.ar, old.pc);
             Registers {
-                ar: (old.ar + 1) % 4096,
+                ar: up12(old.ar),
                 r,
                 sc: 5,
                 ..old
@@ -86,14 +87,14 @@ pub(super) fn t5(old: Registers) -> Registers
 
 // ISZ: M[AR] ← DR, and PC ← PC + 1 where DR is zero.
 pub(super) fn t6<M: Memory>(old: Registers, memory: &mut M) -> Registers
-    requires { (old.pc < 4096) × (opcode old.ir ≡ 6) }
-    ensures { Moves 6 old (M.Memory.contents memory.old) result (M.Memory.contents memory.new) }
+    requires { opcode old.ir ≡ 6 }
+    ensures { Moves 6 old (M.contents memory.old) result (M.contents memory.new) }
 {
     memory.store(old.ar, old.dr);
     let r = raised(old);
     if old.dr == 0 {
         Registers {
-            pc: (old.pc + 1) % 4096,
+            pc: up12(old.pc),
             r,
             sc: 0,
             ..old

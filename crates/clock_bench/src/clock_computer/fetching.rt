@@ -1,9 +1,9 @@
 //! T0 to T2: a word is fetched and decoded, or the interrupt cycle is made. AR and PC take 12 bits of the bus.
-ghost use Rattle.std.specs.Prelude.{◌<◌};
 ghost use Rattle.memory.specs.Contents.{Contents};
 ghost use Rattle.clock_bench.specs.ClockComputers.{Moves};
 
 use machine::Registers;
+use machine::word::up12;
 use memory::Memory;
 
 // AR ← PC. In the interrupt cycle AR ← 0, TR ← PC.
@@ -28,8 +28,7 @@ pub(super) fn t0(old: Registers) -> Registers
 
 // IR ← M[AR], PC ← PC + 1. In the interrupt cycle M[AR] ← TR, PC ← 0.
 pub(super) fn t1<M: Memory>(old: Registers, memory: &mut M) -> Registers
-    requires { old.pc < 4096 }
-    ensures { Moves 1 old (M.Memory.contents memory.old) result (M.Memory.contents memory.new) }
+    ensures { Moves 1 old (M.contents memory.old) result (M.contents memory.new) }
 {
     if old.r {
         memory.store(old.ar, old.tr);
@@ -41,7 +40,7 @@ pub(super) fn t1<M: Memory>(old: Registers, memory: &mut M) -> Registers
     } else {
         Registers {
             ir: memory.fetch(old.ar),
-            pc: (old.pc + 1) % 4096,
+            pc: up12(old.pc),
             sc: 2,
             ..old
         }
@@ -50,12 +49,11 @@ pub(super) fn t1<M: Memory>(old: Registers, memory: &mut M) -> Registers
 
 // AR ← IR(0-11), I ← IR(15). The interrupt cycle ends: PC ← PC + 1, IEN ← 0, R ← 0.
 pub(super) fn t2(old: Registers) -> Registers
-    requires { old.pc < 4096 }
     ensures { (contents : Contents) → Moves 2 old contents result contents }
 {
     if old.r {
         Registers {
-            pc: (old.pc + 1) % 4096,
+            pc: up12(old.pc),
             ien: false,
             r: false,
             sc: 0,

@@ -1,5 +1,4 @@
 //! T3: an instruction of opcode 7 is carried out; for any other an indirect address is replaced.
-ghost use Rattle.std.specs.Prelude.{◌<◌};
 ghost use Rattle.clock_bench.specs.ClockComputers.{Moves};
 
 use crate::clock_computer::interrupt::raised;
@@ -9,8 +8,7 @@ use memory::Memory;
 
 // Opcode 7 with I down is register-reference, with I up input-output. Any other, with I up: AR ← M[AR].
 pub(super) fn t3<M: Memory>(old: Registers, memory: &M) -> Registers
-    requires { old.pc < 4096 }
-    ensures { Moves 3 old (M.Memory.contents memory.now) result (M.Memory.contents memory.now) }
+    ensures { Moves 3 old (M.contents memory.now) result (M.contents memory.now) }
 {
     if old.ir / 4096 % 8 == 7 {
         if old.i {

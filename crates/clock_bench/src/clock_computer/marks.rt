@@ -1,20 +1,14 @@
 //! The instructions of opcode 7: each bit of the word that is up is a mark, and several marks act together.
-ghost use Rattle.std.specs.Prelude.{◌≡◌, ◌<◌, if◌then◌else◌};
+ghost use Rattle.std.specs.Prelude.{◌≡◌};
 ghost use Rattle.machine.specs.Boards.{visible_of};
 ghost use Rattle.machine.specs.Parts.{flip_flop, unless_lowered};
 ghost use Rattle.machine.specs.Table.{marked_ac, marked_e, register_skip, port_skip};
-ghost use Rattle.machine.specs.Words.{bit, up12};
+ghost use Rattle.machine.specs.Words.{bit};
 ghost use Rattle.clock_bench.specs.ClockComputers.{register_marked, port_marked};
 
 use crate::clock_computer::interrupt::raised;
-use machine::{Port, Registers};
-
-// Bit i of a word.
-macro_rules! bit {
-    ($word:expr, $i:literal) => {
-        ($word >> $i) % 2 == 1
-    };
-}
+use machine::word::skipped;
+use machine::{Port, Registers, bit};
 
 // CLA, then CMA, CIR and CIL joined, then INC.
 fn marked_ac(old: Registers) -> u16
@@ -75,14 +69,6 @@ fn port_skip(old: Registers) -> bool
     bit!(old.ir, 9) & old.port.fgi | bit!(old.ir, 8) & old.port.fgo
 }
 
-// PC, past the next instruction where that is skipped.
-fn skipped(pc: u16, skip: bool) -> u16
-    requires { pc < 4096 }
-    ensures { result ≡ (if skip then up12 pc else pc) }
-{
-    if skip { (pc + 1) % 4096 } else { pc }
-}
-
 // ION and IOF; together they turn IEN.
 fn marked_ien(old: Registers) -> bool
     ensures { result ≡ flip_flop (bit 7 old.ir) (bit 6 old.ir) old.ien }
@@ -105,7 +91,6 @@ fn marked_s(old: Registers) -> bool
 
 // A register-reference instruction.
 pub(super) fn register_reference(old: Registers) -> Registers
-    requires { old.pc < 4096 }
     ensures { result ≡ register_marked old }
 {
     Registers {
@@ -139,7 +124,6 @@ fn marked_port(old: Registers) -> Port
 
 // An input-output instruction; INP takes the character in INPR.
 pub(super) fn input_output(old: Registers) -> Registers
-    requires { old.pc < 4096 }
     ensures { result ≡ port_marked old }
 {
     let inp = bit!(old.ir, 11);

@@ -24,12 +24,7 @@ impl ClockComputer {
             r: false,
             s: false,
             ien: false,
-            port: Port {
-                inpr: 0,
-                outr: 0,
-                fgi: false,
-                fgo: true,
-            },
+            port: Port::new(),
         }
     }
 

@@ -15,7 +15,7 @@ use memory::Memory;
 // The registers after the transfers, and the memory write.
 fn transferred<M: Memory>(old: Registers, memory: &mut M) -> Registers
     requires { Sound old }
-    ensures { Moves old.sc old (M.Memory.contents memory.old) result (M.Memory.contents memory.new) }
+    ensures { Moves old.sc old (M.contents memory.old) result (M.contents memory.new) }
 {
     match old.sc {
         0 => t0(old),
@@ -40,7 +40,7 @@ impl ClockComputer {
     /// The transfers and the memory write of one clock, without the beat. Answers the clocks of the cycle that it ends, or 0.
     pub(crate) fn transfer<M: Memory>(&mut self, memory: &mut M) -> u16
         requires { self.old.s ≡ true }
-        ensures after { (rule : Rule) → board self.new (M.Memory.contents memory.new) rule ≡ moved (board self.old (M.Memory.contents memory.old) rule) }
+        ensures after { (rule : Rule) → board self.new (M.contents memory.new) rule ≡ moved (board self.old (M.contents memory.old) rule) }
         ensures answer { result ≡ clocks_ended (registers_of self.old) }
     {
         let before = self.registers();

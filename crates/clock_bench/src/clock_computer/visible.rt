@@ -11,14 +11,6 @@ impl ClockComputer {
     pub fn visible(&self) -> Visible
         ensures { result ≡ visible_of (registers_of self.now) }
     {
-        Visible {
-            ac: self.ac,
-            e: self.e,
-            pc: self.pc,
-            ien: self.ien,
-            r: self.r,
-            s: self.s,
-            port: self.port,
-        }
+        Visible::from(self.registers())
     }
 }
