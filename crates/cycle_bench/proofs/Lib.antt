@@ -1,3 +1,2 @@
-pub mod Beating
 pub mod CycleSteps
 pub mod CycleRuns

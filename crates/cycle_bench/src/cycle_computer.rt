@@ -8,7 +8,6 @@ mod cycle;
 mod execution;
 mod interrupt;
 mod panel;
-mod perform;
 mod port_marks;
 mod references;
 mod register_marks;

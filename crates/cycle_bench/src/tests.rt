@@ -1,7 +1,7 @@
 //! Cycles, runs and refusals that were worked out by hand.
 use crate::CycleComputer;
 use line::{Cue, QuietLine, ScriptLine};
-use machine::Refusal;
+use machine::{Computer, Refusal};
 use memory::{Memory, WordMemory};
 use std::alloc::{AllocError, Global};
 use std::test::Fail;

@@ -6,29 +6,29 @@ ghost use Rattle.machine.specs.Cycle.{beaten};
 ghost use Rattle.cycle_bench.specs.CycleComputers.{cycle_board, stepped, readied};
 
 use crate::cycle_computer::CycleComputer;
-use crate::ports;
 use line::Line;
+use machine::word::up12;
 
 impl CycleComputer {
     /// Some beats.
     pub(super) fn beats<L: Line>(&mut self, line: &mut L, n: u8)
         ensures { (words : Contents) → cycle_board self.new words (L.replies line.new) ≡ beaten n (cycle_board self.old words (L.replies line.old)) }
     {
-        ports::beats(&mut self.port, line, n);
+        self.port.beats(line, n);
     }
 
     /// One beat.
     pub(super) fn beat<L: Line>(&mut self, line: &mut L)
         ensures { (words : Contents) → cycle_board self.new words (L.replies line.new) ≡ beaten 1 (cycle_board self.old words (L.replies line.old)) }
     {
-        ports::beat(&mut self.port, line);
+        self.port.beat(line);
     }
 
     /// PC goes past the word, and R up exactly when IEN and a flag are up.
     fn step(&mut self)
         ensures { (words : Contents) (rule : Rule) → cycle_board self.new words rule ≡ stepped (cycle_board self.old words rule) }
     {
-        self.pc = (self.pc + 1) % 4096;
+        self.pc = up12(self.pc);
         self.r = self.ien & (self.port.fgi | self.port.fgo);
     }
 

@@ -8,6 +8,7 @@ ghost use Rattle.cycle_bench.specs.CycleComputers.{cycle_board, BeforeLastBeat};
 use crate::cycle_computer::CycleComputer;
 use line::Line;
 use machine::Refusal;
+use machine::cause::{check_running, check_size};
 use memory::Memory;
 
 impl CycleComputer {
@@ -44,12 +45,8 @@ impl CycleComputer {
         ensures after { cycle_board self.new (M.contents memory.new) (L.replies line.new) ≡ (on_cycled Clock (cycle_board self.old (M.contents memory.old) (L.replies line.old))).after }
         ensures refusal { is_err result ≡ true → (self.new ≡ self.old) × (memory.new ≡ memory.old) × (line.new ≡ line.old) }
     {
-        if memory.size() != 4096 {
-            return Err(Refusal::MemorySize);
-        }
-        if !self.s {
-            return Err(Refusal::Stopped);
-        }
+        check_size(memory.size())?;
+        check_running(self.s)?;
         Ok(self.whole_cycle(memory, line))
     }
 }

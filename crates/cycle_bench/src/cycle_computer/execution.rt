@@ -5,8 +5,8 @@ ghost use Rattle.machine.specs.Table.{row};
 ghost use Rattle.cycle_bench.specs.CycleComputers.{cycle_board, CarriedOut, Executed, readied};
 
 use crate::cycle_computer::CycleComputer;
-use crate::words::bit;
 use line::Line;
+use machine::bit;
 use memory::Memory;
 
 impl CycleComputer {

@@ -5,8 +5,10 @@ ghost use Rattle.machine.specs.Parts.{flip_flop};
 ghost use Rattle.machine.specs.Table.{port_skip, port_marks};
 ghost use Rattle.cycle_bench.specs.CycleComputers.{registers_of};
 
+use crate::choice::choose;
 use crate::cycle_computer::CycleComputer;
-use crate::words::{bit, choose, skipped};
+use machine::bit;
+use machine::word::skipped;
 
 impl CycleComputer {
     /// Whether SKI or SKO skips.

@@ -6,7 +6,8 @@ ghost use Rattle.machine.specs.Table.{address, AND, ADD, LDA, STA, BUN, BSA, ISZ
 ghost use Rattle.cycle_bench.specs.CycleComputers.{cycle_board, CarriedOut};
 
 use crate::cycle_computer::CycleComputer;
-use crate::words::{bit, skipped};
+use machine::bit;
+use machine::word::{skipped, up12};
 use memory::Memory;
 
 /// The address of a word: its low 12 bits, or with bit 15 up those of the word there.
@@ -79,7 +80,7 @@ impl CycleComputer {
     {
         let address = address_of(memory, word);
         memory.store(address, self.pc);
-        self.pc = (address + 1) % 4096;
+        self.pc = up12(address);
         6
     }
 

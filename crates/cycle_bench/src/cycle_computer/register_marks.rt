@@ -5,8 +5,10 @@ ghost use Rattle.machine.specs.Parts.{source};
 ghost use Rattle.machine.specs.Table.{marked_ac, marked_e, register_skip, register_marks};
 ghost use Rattle.cycle_bench.specs.CycleComputers.{registers_of};
 
+use crate::choice::choose;
 use crate::cycle_computer::CycleComputer;
-use crate::words::{bit, choose, skipped};
+use machine::bit;
+use machine::word::skipped;
 
 impl CycleComputer {
     /// What CMA, CIR and CIL bring to AC, put together.

@@ -18,12 +18,7 @@ impl CycleComputer {
             ien: false,
             r: false,
             s: false,
-            port: Port {
-                inpr: 0,
-                outr: 0,
-                fgi: false,
-                fgo: true,
-            },
+            port: Port::new(),
         }
     }
 

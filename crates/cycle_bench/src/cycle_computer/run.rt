@@ -9,6 +9,7 @@ ghost use Rattle.cycle_bench.specs.CycleComputers.{cycle_board, as_ran, LawfulRu
 use crate::cycle_computer::CycleComputer;
 use line::Line;
 use machine::Refusal;
+use machine::cause::{check_running, check_size};
 use memory::Memory;
 
 impl CycleComputer {
@@ -41,12 +42,8 @@ impl CycleComputer {
         ensures law { LawfulRun n (cycle_board self.old (M.contents memory.old) (L.replies line.old)) result (cycle_board self.new (M.contents memory.new) (L.replies line.new)) }
         ensures refusal { is_err result ≡ true → (self.new ≡ self.old) × (memory.new ≡ memory.old) × (line.new ≡ line.old) }
     {
-        if memory.size() != 4096 {
-            return Err(Refusal::MemorySize);
-        }
-        if !self.s {
-            return Err(Refusal::Stopped);
-        }
+        check_size(memory.size())?;
+        check_running(self.s)?;
         Ok(self.cycles(memory, line, n))
     }
 }
