@@ -11,7 +11,7 @@ use crate::short_list::{is_inside, is_struck};
 use clock_bench::ClockComputer;
 use cycle_bench::CycleComputer;
 use line::Line;
-use machine::Call;
+use machine::{Call, Computer};
 use memory::Memory;
 use std::alloc::{AllocError, Global};
 
@@ -25,8 +25,8 @@ fn follow<M: Memory, L: Line>(
     line: &mut L,
 )
     requires { vec_len outcomes.old < vec_capacity outcomes.old }
-    ensures board { cycle_board twin.new (M.Memory.contents memory.new) (L.Line.replies line.new) ≡ (if struck then cycle_board twin.old (M.Memory.contents memory.old) (L.Line.replies line.old) else (on_cycled call (cycle_board twin.old (M.Memory.contents memory.old) (L.Line.replies line.old))).after) }
-    ensures outcomes { outcomes_of outcomes.new.items ≡ (if struck then outcomes_of outcomes.old.items else outcomes_of outcomes.old.items ++ ((on_cycled call (cycle_board twin.old (M.Memory.contents memory.old) (L.Line.replies line.old))).outcome ∷ [])) }
+    ensures board { cycle_board twin.new (M.contents memory.new) (L.replies line.new) ≡ (if struck then cycle_board twin.old (M.contents memory.old) (L.replies line.old) else (on_cycled call (cycle_board twin.old (M.contents memory.old) (L.replies line.old))).after) }
+    ensures outcomes { outcomes_of outcomes.new.items ≡ (if struck then outcomes_of outcomes.old.items else outcomes_of outcomes.old.items ++ ((on_cycled call (cycle_board twin.old (M.contents memory.old) (L.replies line.old))).outcome ∷ [])) }
     ensures len { vec_len outcomes.new ≤ vec_len outcomes.old + 1 }
     ensures capacity { vec_capacity outcomes.new ≡ vec_capacity outcomes.old }
 {
@@ -49,7 +49,7 @@ impl Cosimulation {
     )
         requires room { vec_len self.old.outcomes < vec_capacity self.old.outcomes }
         requires twin_room { vec_len self.old.twin_outcomes < vec_capacity self.old.twin_outcomes }
-        ensures pair { pair_of self.new (MA.Memory.contents memory.new) (LA.Line.replies line.new) (MB.Memory.contents twin_memory.new) (LB.Line.replies twin_line.new) ≡ advanced call (pair_of self.old (MA.Memory.contents memory.old) (LA.Line.replies line.old) (MB.Memory.contents twin_memory.old) (LB.Line.replies twin_line.old)) }
+        ensures pair { pair_of self.new (MA.contents memory.new) (LA.replies line.new) (MB.contents twin_memory.new) (LB.replies twin_line.new) ≡ advanced call (pair_of self.old (MA.contents memory.old) (LA.replies line.old) (MB.contents twin_memory.old) (LB.replies twin_line.old)) }
         ensures len { vec_len self.new.outcomes ≡ vec_len self.old.outcomes + 1 }
         ensures twin_len { vec_len self.new.twin_outcomes ≤ vec_len self.old.twin_outcomes + 1 }
         ensures capacity { vec_capacity self.new.outcomes ≡ vec_capacity self.old.outcomes }
@@ -81,8 +81,8 @@ pub fn cosimulate<MA: Memory, LA: Line, MB: Memory, LB: Line>(
     twin_memory: &mut MB,
     twin_line: &mut LB,
 ) -> Result<Cosimulation, AllocError>
-    ensures runs { MatchResult result (λ v. Runs calls.now (MA.Memory.contents memory.old) (LA.Line.replies line.old) (MB.Memory.contents twin_memory.old) (LB.Line.replies twin_line.old) (pair_of v (MA.Memory.contents memory.new) (LA.Line.replies line.new) (MB.Memory.contents twin_memory.new) (LB.Line.replies twin_line.new))) (λ _. (memory.new ≡ memory.old) × (line.new ≡ line.old) × (twin_memory.new ≡ twin_memory.old) × (twin_line.new ≡ twin_line.old)) }
-    ensures laws { MA.Memory.contents memory.old ≡ MB.Memory.contents twin_memory.old → Alike (LA.Line.replies line.old) (LB.Line.replies twin_line.old) → IfOk result (λ v. Lawful calls.now (MA.Memory.contents memory.old) (LA.Line.replies line.old) (LB.Line.replies twin_line.old) (pair_of v (MA.Memory.contents memory.new) (LA.Line.replies line.new) (MB.Memory.contents twin_memory.new) (LB.Line.replies twin_line.new))) }
+    ensures runs { MatchResult result (λ v. Runs calls.now (MA.contents memory.old) (LA.replies line.old) (MB.contents twin_memory.old) (LB.replies twin_line.old) (pair_of v (MA.contents memory.new) (LA.replies line.new) (MB.contents twin_memory.new) (LB.replies twin_line.new))) (λ _. (memory.new ≡ memory.old) × (line.new ≡ line.old) × (twin_memory.new ≡ twin_memory.old) × (twin_line.new ≡ twin_line.old)) }
+    ensures laws { MA.contents memory.old ≡ MB.contents twin_memory.old → Alike (LA.replies line.old) (LB.replies twin_line.old) → IfOk result (λ v. Lawful calls.now (MA.contents memory.old) (LA.replies line.old) (LB.replies twin_line.old) (pair_of v (MA.contents memory.new) (LA.replies line.new) (MB.contents twin_memory.new) (LB.replies twin_line.new))) }
 {
     let outcomes = Vec::with_capacity(heap, calls.len())?;
     let twin_outcomes = Vec::with_capacity(heap, calls.len())?;

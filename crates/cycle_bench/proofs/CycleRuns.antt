@@ -1,5 +1,5 @@
 -- A run, cycle by cycle.
-use Rattle.std.proofs.Common.{◌≡◌, ℕ, zero, suc, ◌+◌, ◌-◌, ◌<◌, Bool, true, false, cond, sym, ap, ◌∙◌, subst, ap₂, add-zero, zero-add, arith}
+use Rattle.std.proofs.Common.{◌≡◌, ℕ, zero, suc, ◌+◌, ◌-◌, ◌<◌, Bool, true, false, cond, sym, ap, ◌∙◌, subst, ap₂, add-zero, arith}
 use Rattle.memory.specs.Contents.{size}
 use Rattle.machine.specs.Boards.{CycleBoard}
 use Rattle.machine.specs.Cycle.{clocks, cycled, Ran, ran}
@@ -13,12 +13,6 @@ added m k x = record { cycles = m + x.cycles; clocks = k + x.clocks; after = x.a
 
 abbrev counted : ℕ → ℕ → CycleBoard → Ran
 counted m k b = record { cycles = m; clocks = k; after = b }
-
-pub starts : (n : ℕ) (b : CycleBoard) → added 0 0 (ran (n - 0) b) ≡ ran n b
-starts n b =
-    let e : n - 0 ≡ n = omega arith in
-    ap (λ (i : ℕ). added 0 0 (ran i b)) e
-    ∙ ap₂ (λ (m k : ℕ). counted m k (ran n b).after) (zero-add (ran n b).cycles) (zero-add (ran n b).clocks)
 
 abbrev more : ℕ → CycleBoard → Ran
 more j b = counted (suc (ran j (cycled b)).cycles) (clocks b + (ran j (cycled b)).clocks) (ran j (cycled b)).after

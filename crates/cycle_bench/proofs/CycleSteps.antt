@@ -1,11 +1,9 @@
 -- One cycle, put together from its parts.
-use Rattle.std.proofs.Common.{◌≡◌, ℕ, ◌-◌, ◌≤◌, Bool, true, false, cond, ◌&&◌, eqb, sym, refl, ap, ◌∙◌, subst}
+use Rattle.std.proofs.Common.{◌≡◌, ℕ, ◌-◌, Bool, true, false, cond, sym, ap, ◌∙◌, subst}
 use Rattle.machine.specs.Words.{bit, opcode, up12}
 use Rattle.machine.specs.Boards.{CycleBoard}
-use Rattle.machine.specs.Beat.{flagged}
-use Rattle.machine.specs.Table.{row, with_visible, with_pc, with_r, port_marks, register_marks, interrupted, AND, ADD, LDA, STA, BUN, BSA, ISZ, MARKS}
+use Rattle.machine.specs.Table.{row, with_visible, with_pc, port_marks, register_marks, interrupted, MARKS}
 use Rattle.machine.specs.Cycle.{instruction, beaten, executed, clocks, effect, cycled}
-use Rattle.machine.proofs.Cycle.{some-clocks}
 use Rattle.cycle_bench.specs.CycleComputers.{readied, CarriedOut, Executed, BeforeLastBeat}
 
 -- the board u stands ready for the row d, and o is d
@@ -28,28 +26,6 @@ pub register-done : (u z : CycleBoard) (w k : ℕ) → bit 15 w ≡ false → k 
     → CarriedOut MARKS w u k z
 register-done u z w k i e h = record { answer = e; board = rw i h }
 
--- no row reads or writes R
-keeps-r : (a b c d e f g : Bool) (w : ℕ) (q : Bool) (x : CycleBoard)
-    → (cond a AND (cond b ADD (cond c LDA (cond d STA (cond e BUN (cond f BSA (cond g ISZ MARKS))))))).effect w (with_r q x)
-    ≡ with_r q ((cond a AND (cond b ADD (cond c LDA (cond d STA (cond e BUN (cond f BSA (cond g ISZ MARKS))))))).effect w x)
-keeps-r true b c d e f g w q x = refl
-keeps-r false true c d e f g w q x = refl
-keeps-r false false true d e f g w q x = refl
-keeps-r false false false true e f g w q x = refl
-keeps-r false false false false true f g w q x = refl
-keeps-r false false false false false true g w q x = refl
-keeps-r false false false false false false true w q x = refl
-keeps-r false false false false false false false w q x = marks-keep (bit 15 w)
-  where
-    marks-keep : (i : Bool)
-        → with_visible (cond i (port_marks w (with_r q x).visible) (register_marks w (with_r q x).visible)) (with_r q x)
-        ≡ with_r q (with_visible (cond i (port_marks w x.visible) (register_marks w x.visible)) x)
-    marks-keep true = refl
-    marks-keep false = refl
-
-row-keeps-r : (d w : ℕ) (q : Bool) (x : CycleBoard) → (row d).effect w (with_r q x) ≡ with_r q ((row d).effect w x)
-row-keeps-r d w q x = keeps-r (eqb d 0) (eqb d 1) (eqb d 2) (eqb d 3) (eqb d 4) (eqb d 5) (eqb d 6) w q x
-
 -- all but the last beat, by R
 abbrev so_far : CycleBoard → Bool → CycleBoard
 so_far b r =
@@ -66,22 +42,6 @@ clocks-by-r b r q = ap (λ (x : Bool). cond x 3 (row (opcode (instruction b))).c
 pub by-interrupt : (b z : CycleBoard) (k : ℕ) → b.visible.r ≡ true → k ≡ 3 → z ≡ interrupted (beaten 2 b) → BeforeLastBeat b k z
 by-interrupt b z k q e h = record { answer = e ∙ sym (clocks-by-r b true q); board = h ∙ sym (by-r b true q) }
 
-pub by-instruction : (b z : CycleBoard) (k : ℕ) → b.visible.r ≡ false → Executed b k z → BeforeLastBeat b k z
-by-instruction b z k q h =
-    let w = instruction b in
-    let u = beaten ((row (opcode w)).clocks - 1) b in
-    let v = with_pc (up12 b.visible.pc) u in
-    record {
-      answer = h.answer ∙ sym (clocks-by-r b false q);
-      board =
-          h.board
-          ∙ row-keeps-r (opcode w) w (b.visible.ien && flagged u.visible.port) v
-          ∙ sym (by-r b false q);
-    }
-
 -- and the last beat
 pub cycle-is : (b u z : CycleBoard) (k : ℕ) → BeforeLastBeat b k u → z ≡ beaten 1 u → z ≡ cycled b
 cycle-is b u z k h e = e ∙ ap (beaten 1) h.board
-
-pub at-most-seven : (b u : CycleBoard) (k : ℕ) → BeforeLastBeat b k u → k ≤ 7
-at-most-seven b u k h = subst (λ (i : ℕ). i ≤ 7) (sym h.answer) (some-clocks b).2

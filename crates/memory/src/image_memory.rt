@@ -6,7 +6,7 @@ ghost use Rattle.memory.specs.Images.{words_of, stored_bytes};
 use crate::memory::Memory;
 
 /// A memory over given bytes, two to a word, the high byte first. An odd last byte is neither counted nor touched.
-#[derive(Drop)]
+#[derive(Debug, PartialEq, Eq, Drop)]
 pub struct ImageMemory {
     bytes: Vec<u8>,
 }

@@ -5,7 +5,7 @@ ghost use Rattle.memory.specs.Contents.{holding};
 use crate::memory::Memory;
 
 /// A memory over given words.
-#[derive(Drop)]
+#[derive(Debug, PartialEq, Eq, Drop)]
 pub struct WordMemory {
     words: Vec<u16>,
 }
@@ -30,9 +30,8 @@ impl WordMemory {
     fn put(&mut self, address: u16, word: u16)
         ensures { self.new.words.items ≡ slice_set self.old.words.items address word }
     {
-        let at = usize::from(address);
-        if at < self.words.len() {
-            self.words[at] = word;
+        if let Some(place) = self.words.get_mut(usize::from(address)) {
+            *place = word;
         }
     }
 }
@@ -45,12 +44,7 @@ impl Memory for WordMemory {
     }
 
     fn fetch(&self, address: u16) -> u16 {
-        let i = usize::from(address);
-        if i < self.words.len() {
-            self.words[i]
-        } else {
-            0
-        }
+        self.words.get(usize::from(address)).copied().unwrap_or(0)
     }
 
     fn store(&mut self, address: u16, word: u16) {

@@ -1,7 +1,7 @@
 use Rattle.std.proofs.Common.{ap, ◌∙◌}
 use Rattle.machine.specs.Table.{interrupted}
 use Rattle.cycle_bench.specs.CycleComputers.{cycle_board}
-use Rattle.cycle_bench.proofs.CycleSteps.{by-interrupt, by-instruction}
+use Rattle.cycle_bench.proofs.CycleSteps.{by-interrupt}
 use Rattle.cycle_bench.proofs.cycle_computer.CycleComputer.before_last_beat.Goals as goal
 
 pub returns-then-self : goal.returns-then-self
@@ -11,9 +11,3 @@ returns-then-self g c =
     by-interrupt (cycle_board c.args.self.now (g.M.Memory.contents c.args.memory.now) (g.L.Line.replies c.args.line.now))
     (cycle_board c.interrupt.new.self (g.M.Memory.contents c.interrupt.new.memory) rule) c.interrupt.result
     c.if-self.true c.interrupt.ensures.clocks (c.interrupt.ensures.board rule ∙ ap interrupted (c.beats.ensures words))
-
-pub returns-else-self : goal.returns-else-self
-returns-else-self g c =
-    by-instruction (cycle_board c.args.self.now (g.M.Memory.contents c.args.memory.now) (g.L.Line.replies c.args.line.now))
-    (cycle_board c.execute.new.self (g.M.Memory.contents c.execute.new.memory) (g.L.Line.replies c.execute.new.line))
-    c.execute.result c.if-self.false c.execute.ensures
