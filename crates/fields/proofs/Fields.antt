@@ -1,35 +1,46 @@
 -- The fields of a line, one byte and one field at a time.
-use Rattle.std.proofs.Common.{◌≡◌, ℕ, zero, suc, ◌+◌, ◌-◌, ◌<◌, ◌≤◌, true, false, cond, ◌&&◌, eqb, List, [], ◌∷◌, length, get_or, take, drop, sym, refl, ap, ◌∙◌, add-zero, arith, eq-eqb}
-use Rattle.std.proofs.lemmas.List.{at_drop_more, at_drop_all, drop_more, take_rest, drop-drop}
-use Rattle.fields.specs.Fields.{plain, all_plain, name, number, letter, comma, comment, word, ends, word_length, fields, fields_from}
+use Rattle.std.proofs.Common.{◌≡◌, ◌≢◌, ne_eqb, le-leb, ℕ, zero, suc, ◌+◌, ◌-◌, ◌<◌, ◌≤◌, Bool, true, false, cond, not, eqb, List, [], ◌∷◌, length, get_or, take, drop, sym, refl, ap, ◌∙◌, add-zero, length-drop, arith}
+use Rattle.std.specs.List.{position_or_len, prefix_len}
+use Rattle.std.proofs.Math.Numerals.{one-add}
+use Rattle.std.proofs.lemmas.List.Sums.{prefix_len_stops}
+use Rattle.std.proofs.lemmas.List.{at_drop_more, drop_more, drop-drop, get_or-drop}
+use Rattle.fields.specs.Fields.{name, number, letter, word, ends, word_length, fields, fields_from}
 
-module _ (xs : List ℕ) (i : ℕ) where
-  plain_step : i < length xs → all_plain (drop i xs) ≡ (plain (get_or xs i 0) && all_plain (drop (i + 1) xs))
-  plain_step h = at_drop_more all_plain xs i 0 h
+-- how many bytes come before the first that stops, counted byte by byte
+module _ (count : List ℕ → ℕ) (stops : ℕ → Bool) (nothing : count [] ≡ 0) (one : (b : ℕ) (bs : List ℕ) → count (b ∷ bs) ≡ cond (stops b) 0 (suc (count bs))) where
+  by-first : (n p : ℕ) (t : Bool) → n ≡ p → cond t 0 (suc n) ≡ cond (not t) (1 + p) 0
+  by-first n p true e = refl
+  by-first n p false e = omega arith
 
-  pub plain_more : i < length xs → plain (get_or xs i 0) ≡ true → all_plain (drop i xs) ≡ all_plain (drop (i + 1) xs)
-  plain_more h e = plain_step h ∙ rw e
+  pub counted : (bs : List ℕ) → count bs ≡ position_or_len stops bs
+  counted [] = nothing
+  counted (b ∷ bs) = one b bs ∙ by-first (count bs) (position_or_len stops bs) (stops b) (counted bs)
 
-  pub plain-stop : i < length xs → plain (get_or xs i 0) ≡ false → all_plain (drop i xs) ≡ false
-  plain-stop h e = plain_step h ∙ rw e
+pub word-counted : (bs : List ℕ) → word_length bs ≡ position_or_len ends bs
+word-counted bs = counted word_length ends refl (λ b bs. refl) bs
 
-  pub plain-all : length xs ≤ i → all_plain (drop i xs) ≡ true
-  plain-all h = at_drop_all all_plain xs i h
+-- spaces are passed over
+abbrev pub spaces : List ℕ → ℕ
+spaces bs = prefix_len (λ b. eqb b 32) bs
 
-  word-step : i < length xs → word_length (drop i xs) ≡ cond (ends (get_or xs i 0)) 0 (suc (word_length (drop (i + 1) xs)))
-  word-step h = at_drop_more word_length xs i 0 h
+space_or_not : (at b : ℕ) (bs : List ℕ) (t : Bool) → eqb b 32 ≡ t → fields 0 (at + 1) bs ≡ fields 0 (at + 1 + spaces bs) (drop (spaces bs) bs)
+    → fields 0 at (b ∷ bs) ≡ fields 0 (at + cond t (1 + spaces bs) 0) (drop (cond t (1 + spaces bs) 0) (b ∷ bs))
+space_or_not at b bs true e ih = rw (e, one-add) (ih ∙ ap (λ n. fields 0 n (drop (spaces bs) bs)) (omega arith))
+space_or_not at b bs false e ih = rw add-zero
 
-  pub word_more : i < length xs → ends (get_or xs i 0) ≡ false → word_length (drop i xs) ≡ suc (word_length (drop (i + 1) xs))
-  word_more h e = word-step h ∙ rw e
+passed_spaces : (at : ℕ) (bs : List ℕ) → fields 0 at bs ≡ fields 0 (at + spaces bs) (drop (spaces bs) bs)
+passed_spaces at [] = refl
+passed_spaces at (b ∷ bs) = space_or_not at b bs (eqb b 32) refl (passed_spaces (at + 1) bs)
 
-  pub word-stop : i < length xs → ends (get_or xs i 0) ≡ true → word_length (drop i xs) ≡ 0
-  word-stop h e = word-step h ∙ rw e
+module _ (xs : List ℕ) (i n : ℕ) (is : n ≡ spaces (drop i xs)) where
+  pub past_spaces : fields_from xs (i + n) ≡ fields_from xs i
+  past_spaces = sym (passed_spaces i (drop i xs) ∙ rw (← is) (ap (λ l. fields 0 (i + n) l) (drop-drop n i xs)))
 
-  pub word-all : length xs ≤ i → word_length (drop i xs) ≡ 0
-  word-all h = at_drop_all word_length xs i h
-
-  pub space-more : i < length xs → get_or xs i 0 ≡ 32 → fields_from xs i ≡ fields_from xs (i + 1)
-  space-more h e = at_drop_more (fields 0 i) xs i 0 h ∙ rw (eq-eqb _ _ e)
+  pub no_space : i + n < length xs → eqb (get_or xs (i + n) 0) 32 ≡ false
+  no_space h =
+      let k : prefix_len (λ b. eqb b 32) (drop i xs) < length (drop i xs) = rw length-drop (omega arith) in
+      let s = prefix_len_stops (λ b. eqb b 32) (drop i xs) 0 k in
+      rw (← get_or-drop i xs n 0) (rw (← is) at s)
 
 -- k bytes of a word that is told already are passed over
 passed : (k at : ℕ) (bs : List ℕ) → fields k at bs ≡ fields 0 (at + k) (drop k bs)
@@ -38,37 +49,20 @@ passed (suc k) at [] = refl
 passed zero at (b ∷ bs) = rw add-zero
 passed (suc k) at (b ∷ bs) = passed k (at + 1) bs ∙ ap (λ n. fields 0 n (drop k bs)) (omega arith)
 
-module _ (xs : List ℕ) (i : ℕ) where
-  pub none_left : length xs ≤ i → fields_from xs i ≡ []
-  none_left h = at_drop_all (fields 0 i) xs i h
+-- a word: its bytes, and the fields behind it
+module _ (xs after bytes : List ℕ) (i end b : ℕ) (h : i < length xs) (here : get_or xs i 0 ≡ b) (s : b ≢ 32) (is : end ≡ i + 1 + word_length (drop (i + 1) xs)) (same : after ≡ xs) (spelled : bytes ≡ take (end - i) (drop i xs)) where
+  word-here : eqb b 47 ≡ false → eqb b 44 ≡ false → fields_from xs i ≡ word b bytes i ∷ fields_from after end
+  word-here e f =
+      let n = word_length (drop (i + 1) xs) in
+      let long : suc n ≡ end - i = omega arith in
+      let front : b ∷ take n (drop (i + 1) xs) ≡ bytes =
+      rw (← here) (ap (λ l. take (suc n) l) (sym (drop_more xs i 0 h)) ∙ ap (λ k. take k (drop i xs)) long ∙ sym spelled) in
+      let others : fields n (i + 1) (drop (i + 1) xs) ≡ fields_from after end =
+      passed n (i + 1) (drop (i + 1) xs) ∙ ap (λ l. fields 0 (i + 1 + n) l) (drop-drop n (i + 1) xs) ∙ ap (λ k. fields_from xs k) (sym is) ∙ ap (λ l. fields_from l end) (sym same) in
+      at_drop_more (fields 0 i) xs i 0 h ∙ rw (here, ne_eqb b 32 s, e, f) (λ j. word b (front j) i ∷ others j)
 
-  pub comment-here : i < length xs → eqb (get_or xs i 0) 32 ≡ false → eqb (get_or xs i 0) 47 ≡ true → fields_from xs i ≡ comment (take (length xs - i) (drop i xs)) i ∷ fields_from xs (length xs)
-  comment-here h s e =
-      at_drop_more (fields 0 i) xs i 0 h ∙ rw (s, e) (ap (λ l. comment l i ∷ []) (sym (drop_more xs i 0 h) ∙ sym (take_rest xs i)) ∙ ap (λ l. comment (take (length xs - i) (drop i xs)) i ∷ l) (sym (at_drop_all (fields 0 (length xs)) xs (length xs) (omega arith))))
+  pub name-here : 65 ≤ b → b ≤ 90 → fields_from xs i ≡ name bytes i ∷ fields_from after end
+  name-here l u = word-here (ne_eqb b 47 (λ e. omega arith)) (ne_eqb b 44 (λ e. omega arith)) ∙ rw (le-leb 65 b l, le-leb b 90 u)
 
-  pub comma-here : i < length xs → eqb (get_or xs i 0) 32 ≡ false → eqb (get_or xs i 0) 47 ≡ false → eqb (get_or xs i 0) 44 ≡ true → fields_from xs i ≡ comma i ∷ fields_from xs (i + 1)
-  comma-here h s e f = at_drop_more (fields 0 i) xs i 0 h ∙ rw (s, e, f)
-
-  module _ (end : ℕ) (h : i < length xs) (s : eqb (get_or xs i 0) 32 ≡ false) (e : eqb (get_or xs i 0) 47 ≡ false) (f : eqb (get_or xs i 0) 44 ≡ false) (is : end ≡ i + 1 + word_length (drop (i + 1) xs)) where
-    word-here : fields_from xs i ≡ word (get_or xs i 0) (take (end - i) (drop i xs)) i ∷ fields_from xs end
-    word-here =
-        let n = word_length (drop (i + 1) xs) in
-        let long : suc n ≡ end - i = omega arith in
-        let bytes : get_or xs i 0 ∷ take n (drop (i + 1) xs) ≡ take (end - i) (drop i xs) =
-        ap (λ l. take (suc n) l) (sym (drop_more xs i 0 h)) ∙ ap (λ k. take k (drop i xs)) long in
-        let others : fields n (i + 1) (drop (i + 1) xs) ≡ fields_from xs end =
-        passed n (i + 1) (drop (i + 1) xs) ∙ ap (λ l. fields 0 (i + 1 + n) l) (drop-drop n (i + 1) xs) ∙ ap (λ k. fields_from xs k) (sym is) in
-        at_drop_more (fields 0 i) xs i 0 h ∙ rw (s, e, f) (λ j. word (get_or xs i 0) (bytes j) i ∷ others j)
-
-    pub name-here : letter (get_or xs i 0) ≡ true → fields_from xs i ≡ name (take (end - i) (drop i xs)) i ∷ fields_from xs end
-    name-here l = word-here ∙ rw l
-
-    pub number-here : letter (get_or xs i 0) ≡ false → fields_from xs i ≡ number (take (end - i) (drop i xs)) i ∷ fields_from xs end
-    number-here l = word-here ∙ rw l
-
--- a part of a list is as long as it is
-pub part : (n : ℕ) (xs : List ℕ) → take n xs ≡ take (length (take n xs)) xs
-part zero [] = refl
-part (suc n) [] = refl
-part zero (x ∷ xs) = refl
-part (suc n) (x ∷ xs) = ap (λ l. x ∷ l) (part n xs)
+  pub number-here : eqb b 47 ≡ false → eqb b 44 ≡ false → letter b ≡ false → fields_from xs i ≡ number bytes i ∷ fields_from after end
+  number-here e f l = word-here e f ∙ rw l

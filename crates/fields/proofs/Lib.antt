@@ -1,4 +1,4 @@
 pub mod Outcomes
-pub mod Lines
+pub mod LineLemmas
 pub mod Fields
 pub mod Numbers

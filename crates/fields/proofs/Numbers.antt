@@ -1,5 +1,5 @@
 -- One digit more of a number that is carried from digit to digit.
-use Rattle.std.proofs.Common.{◌≡◌, ℕ, suc, ◌+◌, ◌*◌, ◌^◌, ◌<◌, ◌≤◌, List, ◌∷◌, length, get_or, drop, Some, None, Option, sym, refl, ap, ◌∙◌, mul_assoc, add-mul, mul-le-mul_left, pow-suc, zero-mul, mul-one, add-one, arith, lit<}
+use Rattle.std.proofs.Common.{◌≡◌, ℕ, zero, suc, ◌+◌, ◌*◌, ◌^◌, ◌<◌, ◌≤◌, List, ◌∷◌, length, get_or, drop, Some, None, Option, sym, refl, ap, ◌∙◌, mul_assoc, add-mul, mul-suc, mul_comm, mul-le-mul_left, zero-mul, mul-one, add-one, arith}
 use native.Mathlib.Nat.{pow-zero, pow-succ', pow-le-pow_right}
 use Rattle.std.proofs.lemmas.List.{at_drop_more, at_drop_all}
 use Rattle.std.proofs.lemmas.Bool.Decides.{nat_tests}
@@ -25,16 +25,22 @@ more radix v d (Some ds) = ap (λ n. Some n) (shifted radix v d ds)
 more radix v d None = refl
 
 -- a number that is carried stays below the power of as many digits
-pub value-below : (v radix d i : ℕ) → v < 16 ^ i → radix ≤ 16 → d < radix → v * radix + d < 16 ^ (i + 1)
-value-below v radix d i h r l =
-    let p : v * radix ≤ v * 16 = mul-le-mul_left v r in
-    rw (add-one, pow-suc) (omega arith)
+pub value-below : (v radix d i : ℕ) → v < radix ^ i → d < radix → v * radix + d < radix ^ (i + 1)
+value-below v radix d i h l =
+    let k : suc v ≤ radix ^ i = omega arith in
+    let p : radix * suc v ≤ radix * radix ^ i = mul-le-mul_left radix k in
+    rw (add-one, pow-succ') (omega (arith, p, mul-suc radix v, mul_comm radix v))
 
-pub value-fits : (v radix d i : ℕ) → v < 16 ^ i → radix ≤ 16 → d < radix → i < 5 → v * radix + d < 2 ^ 20
-value-fits v radix d i h r l k =
-    let p : i + 1 ≤ 5 = omega arith in
-    let q : 16 ^ (i + 1) ≤ 2 ^ 20 = pow-le-pow_right (lit< tt) p in
-    omega (arith, value-below v radix d i h r l)
+power_within : (radix i most : ℕ) → 0 < radix → i ≤ most → radix ^ i ≤ radix ^ most
+power_within radix i most h l = pow-le-pow_right h l
+
+pub below_most : (v radix i most : ℕ) → v < radix ^ i → 0 < i → i ≤ most → v < radix ^ most
+below_most v zero zero most h p l = absurd (omega arith)
+below_most v zero (suc i) most h p l = absurd (omega (arith, pow-succ' 0 i, zero-mul (0 ^ i)))
+below_most v (suc r) i most h p l = omega (arith, power_within (suc r) i most (omega arith) l)
+
+pub value-fits : (v radix d i most : ℕ) → v < radix ^ i → d < radix → i < most → v * radix + d < radix ^ most
+value-fits v radix d i most h l k = omega (arith, value-below v radix d i h l, power_within radix (i + 1) most (omega arith) (omega arith))
 
 alone : (radix : ℕ) (ds : Option (List ℕ)) → if_some ds (λ l. Some (0 * radix ^ length l + place_value radix l)) ≡ if_some ds (λ l. Some (place_value radix l))
 alone radix (Some ds) = ap (λ n. Some n) (omega (arith, zero-mul (radix ^ length ds)))

@@ -1,5 +1,6 @@
 -- The fields of a line, each with the place of its first byte.
-use Rattle.std.specs.Prelude.{◌≡◌, ℕ, zero, suc, ◌+◌, Bool, true, cond, ◌&&◌, ◌||◌, List, [], ◌∷◌, length, take, drop, Some, None, Ok, Err, Option, Result, ◌==◌, nat_le, slice_index}
+use Rattle.std.specs.Prelude.{◌≡◌, ℕ, zero, suc, ◌+◌, Bool, cond, ◌&&◌, ◌||◌, List, [], ◌∷◌, length, take, drop, Some, None, Ok, Err, Option, Result, ◌==◌, nat_le, slice_index}
+use Rattle.std.specs.List.{list_all}
 use Rattle.fields.specs.declared.fault.FieldFault.{FieldFault}
 use Rattle.fields.specs.declared.fault.FieldFault.TheVariants.{BadByte}
 use Rattle.fields.specs.declared.token.Token.{Token}
@@ -10,8 +11,7 @@ abbrev pub plain : ℕ → Bool
 plain b = nat_le 32 b && nat_le b 126
 
 abbrev pub all_plain : List ℕ → Bool
-all_plain [] = true
-all_plain (b ∷ bs) = plain b && all_plain bs
+all_plain bs = list_all plain bs
 
 -- the refusal of a line under its number, if a byte may not stand in it
 abbrev pub checked : ℕ → List ℕ → Result (Unit {0}) FieldFault

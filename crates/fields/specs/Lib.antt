@@ -4,3 +4,5 @@ pub mod Lines
 pub mod Fields
 pub mod Cursors
 pub mod Numbers
+pub mod Reports
+pub mod TextLines

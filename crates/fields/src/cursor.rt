@@ -2,6 +2,7 @@
 ghost use Rattle.std.specs.Prelude.{◌≤◌, length};
 
 mod reading;
+mod skipping;
 
 /// The fields of a line that are still to be read.
 #[derive(Clone, Copy)]

@@ -3,6 +3,8 @@ ghost use Rattle.std.specs.Prelude.{◌≡◌};
 ghost use Rattle.fields.specs.Faults.{reported};
 
 use crate::report::Report;
+use std::error::Error;
+use std::fmt;
 
 /// A line that cannot be taken apart into fields.
 #[derive(Clone, Copy, Debug)]
@@ -24,3 +26,20 @@ impl FieldFault {
         }
     }
 }
+
+impl fmt::Display for FieldFault {
+    ghost use Rattle.std.specs.Prelude.{Some};
+    ghost use Rattle.fields.specs.Faults.{meaning};
+
+    ghost output = { λ f. Some (meaning f) };
+
+    fn fmt<W: fmt::Write>(&self, f: &mut fmt::Formatter<W>) -> fmt::Result {
+        match self {
+            FieldFault::BadByte { .. } => {
+                f.write_str("a byte that may not stand in a sheet: only 32 to 126 may")
+            }
+        }
+    }
+}
+
+impl Error for FieldFault {}

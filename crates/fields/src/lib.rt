@@ -3,13 +3,14 @@
 
 pub mod cursor;
 pub mod fault;
+pub mod lines;
 pub mod number;
 pub mod report;
-mod scan;
 pub mod text;
 pub mod token;
 
 pub use cursor::Cursor;
 pub use fault::FieldFault;
+pub use lines::Lines;
 pub use report::Report;
 pub use token::Token;

@@ -1,34 +1,15 @@
 //! Lines of a text.
-ghost use Rattle.std.specs.Prelude.{◌≡◌, ◌+◌, ◌≤◌, length, take, drop};
-ghost use Rattle.fields.specs.Fields.{plain, checked};
-ghost use Rattle.fields.specs.Lines.{line_length, Split, Leads};
+ghost use Rattle.std.specs.Prelude.{◌≡◌, ◌==◌, position};
+ghost use Rattle.fields.specs.Fields.{plain, all_plain, checked};
+ghost use Rattle.fields.specs.Lines.{Split, Leads};
 
 use crate::fault::FieldFault;
 
-/// How many bytes come before the first byte 10.
-fn line_length(text: &[u8]) -> usize
-    ensures within { result ≤ length text.now }
-    ensures count { result ≡ line_length text.now }
+/// Where the first line ends, if byte 10 ends it.
+fn line_end(text: &[u8]) -> Option<usize>
+    ensures { result ≡ position (λ b. b == 10) text.now }
 {
-    let mut n = 0;
-    while n < text.len() && text[n] != b'\n' {
-        n += 1;
-    }
-    n
-}
-
-/// The first `n` bytes, and those behind the byte after them.
-fn cut(text: &[u8], n: usize) -> (&[u8], &[u8])
-    requires { n ≤ length text.now }
-    ensures front { result.0.now ≡ take n text.now }
-    ensures behind { result.1.now ≡ drop (n + 1) text.now }
-{
-    let (front, rest) = text.split_at(n);
-    if n < text.len() {
-        (front, text.split_at(n + 1).1)
-    } else {
-        (front, rest)
-    }
+    text.iter().position(|b| *b == b'\n')
 }
 
 /// The first line of a text, and the text behind it; none where the text is empty.
@@ -36,11 +17,11 @@ pub fn first_line(text: &[u8]) -> Option<(&[u8], &[u8])>
     ensures split { Split text.now result }
     ensures leads { Leads text.now result }
 {
-    if text.is_empty() {
-        return None;
+    match line_end(text) {
+        Some(n) => Some((&text[..n], &text[n + 1..])),
+        None if text.is_empty() => None,
+        None => Some((text, &[])),
     }
-    let n = line_length(text);
-    Some(cut(text, n))
 }
 
 /// Whether a byte may stand in a line.
@@ -50,14 +31,20 @@ fn is_plain(b: u8) -> bool
     b >= 32 && b <= 126
 }
 
+/// Whether no byte forbids the line.
+fn is_all_plain(line: &[u8]) -> bool
+    ensures { result ≡ all_plain line.now }
+{
+    line.iter().all(|b| is_plain(*b))
+}
+
 /// Refuses a line, under its number, with a byte that may not stand in it.
 pub fn check_bytes(line: &[u8], number: u16) -> Result<(), FieldFault>
     ensures { result ≡ checked number line.now }
 {
-    for b in line {
-        if !is_plain(*b) {
-            return Err(FieldFault::BadByte { line: number });
-        }
+    if is_all_plain(line) {
+        Ok(())
+    } else {
+        Err(FieldFault::BadByte { line: number })
     }
-    Ok(())
 }

@@ -1,7 +1,7 @@
 -- What has a form is read so, and what is read has its form.
 use Rattle.std.proofs.Common.{◌≡◌, ℕ, ◌+◌, ◌-◌, ◌%◌, ◌≤◌, Bool, true, false, cond, ◌&&◌, eqb, leb, List, [], ◌∷◌, length, get_or, drop, IfOk, Some, None, Ok, Err, Option, Result, sym, refl, ap, ◌∙◌, subst, arith, eq-eqb, ne_eqb, eqb-true, le-leb, leb-true}
 use borrow.Author.Tests.{eqb-false}
-use Rattle.fields.proofs.Outcomes.{both_true, clash, ok-both, ok_same, ok-some, ok-when}
+use Rattle.fields.proofs.Outcomes.{both_true, ok-both, ok_same, ok-some, ok-when}
 use Rattle.fields.specs.declared.fault.FieldFault.TheVariants.{BadByte}
 use Rattle.fields.specs.Fields.{Field, name, number, comma, comment, all_plain, fields_of}
 use Rattle.fields.specs.Numbers.{number_in}
@@ -116,15 +116,15 @@ module _ (line : ℕ) where
   ended-form : (fs : List Field) (u : Unit {0}) → ended line fs ≡ Ok u → Ended fs
   ended-form [] u h = nothing
   ended-form (comment w at ∷ fs) u h = commented
-  ended-form (name w at ∷ fs) u h = absurd (clash (NoForm line) u h)
-  ended-form (number w at ∷ fs) u h = absurd (clash (NoForm line) u h)
-  ended-form (comma at ∷ fs) u h = absurd (clash (NoForm line) u h)
+  ended-form (name w at ∷ fs) u h = cc
+  ended-form (number w at ∷ fs) u h = cc
+  ended-form (comma at ∷ fs) u h = cc
 
   indirect-form : (fs : List Field) (i : Bool) → indirect_of line fs ≡ Ok i → Indirect fs i
   indirect-form [] i h = subst (λ (b : Bool). Indirect [] b) (ok_same false i h) (direct nothing)
   indirect-form (comment w at ∷ fs) i h = subst (λ (b : Bool). Indirect (comment w at ∷ fs) b) (ok_same false i h) (direct commented)
-  indirect-form (number w at ∷ fs) i h = absurd (clash (NoForm line) i h)
-  indirect-form (comma at ∷ fs) i h = absurd (clash (NoForm line) i h)
+  indirect-form (number w at ∷ fs) i h = cc
+  indirect-form (comma at ∷ fs) i h = cc
   indirect-form (name w at ∷ fs) i h =
       let a = ok-when (eqb (length w) 1 && eqb (get_or w 0 0) I) (and_then (ended line fs) (λ u. Ok true)) i (NoForm line) h in
       let t = both_true (eqb (length w) 1) (eqb (get_or w 0 0) I) a.0 in
@@ -147,8 +147,8 @@ module _ (line : ℕ) where
       let a = ok-both (address_of line w) (λ n. Ok (Address n)) o h in
       let b = address-form w a.0 a.1 in
       subst (λ (x : Operand). Points (number w at) x) (ok_same (Address a.0) o a.2) (address b.0 b.1)
-  points-form (comma at) o h = absurd (clash (NoForm line) o h)
-  points-form (comment w at) o h = absurd (clash (NoForm line) o h)
+  points-form (comma at) o h = cc
+  points-form (comment w at) o h = cc
 
   -- one word, and nothing more
   pub record Only (fs : List Field) (w : List ℕ) : Type 0 where
@@ -159,7 +159,7 @@ module _ (line : ℕ) where
     pub ended : Ended rest
 
   only-form : (fs : List Field) (w : List ℕ) → only_word line fs ≡ Ok w → Only fs w
-  only-form [] w h = absurd (clash (NoForm line) w h)
+  only-form [] w h = cc
   only-form (name v at ∷ fs) w h =
       let a = ok-both (ended line fs) (λ u. Ok v) w h in
       record {
@@ -178,8 +178,8 @@ module _ (line : ℕ) where
         spelled = subst (λ (x : List ℕ). Spelled (number v at) x) (ok_same v w a.2) by_number;
         ended = ended-form fs a.0 a.1;
       }
-  only-form (comma at ∷ fs) w h = absurd (clash (NoForm line) w h)
-  only-form (comment v at ∷ fs) w h = absurd (clash (NoForm line) w h)
+  only-form (comma at ∷ fs) w h = cc
+  only-form (comment v at ∷ fs) w h = cc
 
   decimal-by : (w : List ℕ) (n : ℕ) (t : Bool) → eqb (get_or w 0 0) 45 ≡ t
       → cond t
@@ -197,13 +197,13 @@ module _ (line : ℕ) where
   -- DEC and HEX
   radix-decimal : (a b : Bool) → ◌≡◌ {A = Option Radix} (cond a (Some radix.Decimal) (cond b (Some radix.Hexadecimal) None)) (Some radix.Decimal) → a ≡ true
   radix-decimal true b h = refl
-  radix-decimal false true h = absurd (let z : ◌≡◌ {A = ℕ} 0 1 = cc in omega arith)
-  radix-decimal false false h = absurd (let z : ◌≡◌ {A = ℕ} 0 1 = cc in omega arith)
+  radix-decimal false true h = cc
+  radix-decimal false false h = cc
 
   radix-hexadecimal : (a b : Bool) → ◌≡◌ {A = Option Radix} (cond a (Some radix.Decimal) (cond b (Some radix.Hexadecimal) None)) (Some radix.Hexadecimal) → b ≡ true
-  radix-hexadecimal true b h = absurd (let z : ◌≡◌ {A = ℕ} 0 1 = cc in omega arith)
+  radix-hexadecimal true b h = cc
   radix-hexadecimal false true h = refl
-  radix-hexadecimal false false h = absurd (let z : ◌≡◌ {A = ℕ} 0 1 = cc in omega arith)
+  radix-hexadecimal false false h = cc
 
   decimal-form : (w : List ℕ) (fs : List Field) (code : Code) → spells w D E C ≡ true → decimal_of line fs ≡ Ok code → Codes w fs code
   decimal-form w fs code is h =
@@ -223,7 +223,7 @@ module _ (line : ℕ) where
       (subst (λ (x : Code). Codes w (o.first ∷ o.rest) x) (ok_same (Word b.0) code b.2) (hexadecimal is o.spelled b.1 o.ended))
 
   reference-form : (w : List ℕ) (op : Operation) (fs : List Field) (code : Code) → operation_of w ≡ Some op → reference_of line op fs ≡ Ok code → Codes w fs code
-  reference-form w op [] code is h = absurd (clash (NoForm line) code h)
+  reference-form w op [] code is h = cc
   reference-form w op (f ∷ fs) code is h =
       let a = ok-both (indirect_of line fs) (λ i. and_then (operand_of line f) (λ o. Ok (Reference op o i))) code h in
       let b = ok-both (operand_of line f) (λ o. Ok (Reference op o a.0)) code a.2 in
@@ -273,15 +273,15 @@ module _ (line : ℕ) where
 
   -- a statement behind a label
   labelled-form : (v : List ℕ) (at : ℕ) (fs : List Field) (s : Statement) → labelled_of line v fs ≡ Ok s → Form (name v at ∷ comma (at + length v) ∷ fs) s
-  labelled-form v at [] s h = absurd (clash (NoForm line) s h)
+  labelled-form v at [] s h = cc
   labelled-form v at (name w place ∷ fs) s h =
       let a = ok-some (label_name v) (λ l. and_then (code_of line w fs) (λ code. Ok (Lays (Some l) code))) s (NoForm line) h in
       let b = ok-both (code_of line w fs) (λ code. Ok (Lays (Some a.0) code)) s a.2 in
       subst (λ (x : Statement). Form (name v at ∷ comma (at + length v) ∷ name w place ∷ fs) x) (ok_same (Lays (Some a.0) b.0) s b.2)
       (labelled a.1 (codes-form w fs b.0 b.1))
-  labelled-form v at (number w place ∷ fs) s h = absurd (clash (NoForm line) s h)
-  labelled-form v at (comma place ∷ fs) s h = absurd (clash (NoForm line) s h)
-  labelled-form v at (comment w place ∷ fs) s h = absurd (clash (NoForm line) s h)
+  labelled-form v at (number w place ∷ fs) s h = cc
+  labelled-form v at (comma place ∷ fs) s h = cc
+  labelled-form v at (comment w place ∷ fs) s h = cc
 
   comma-form : (w : List ℕ) (at place : ℕ) (fs : List Field) (s : Statement) (t : Bool) → eqb place (at + length w) ≡ t
       → named_of line w (comma place ∷ fs) (cond t (Some fs) None) ≡ Ok s → Form (name w at ∷ comma place ∷ fs) s
@@ -300,8 +300,8 @@ module _ (line : ℕ) where
   has-form [] s h = subst (λ (x : Statement). Form [] x) (ok_same Blank s h) (blank nothing)
   has-form (comment w at ∷ fs) s h = subst (λ (x : Statement). Form (comment w at ∷ fs) x) (ok_same Blank s h) (blank commented)
   has-form (name w at ∷ fs) s h = named-form w at fs s h
-  has-form (number w at ∷ fs) s h = absurd (clash (NoForm line) s h)
-  has-form (comma at ∷ fs) s h = absurd (clash (NoForm line) s h)
+  has-form (number w at ∷ fs) s h = cc
+  has-form (comma at ∷ fs) s h = cc
 
 -- OF A LINE
 
@@ -311,7 +311,7 @@ module _ (line : ℕ) (bytes : List ℕ) where
 
   line-by : (t : Bool) (s : Statement) → lifted {X = Unit {0}} fault.Field (cond t (Ok tt) (Err (BadByte line))) (λ u. statement_of line (fields_of bytes)) ≡ Ok s → Form (fields_of bytes) s
   line-by true s h = has-form line (fields_of bytes) s h
-  line-by false s h = absurd (clash (fault.Field (BadByte line)) s h)
+  line-by false s h = cc
 
   pub line-form : (r : Result Statement StatementFault) → r ≡ line_statement line bytes → IfOk r (λ s. Form (fields_of bytes) s)
   line-form (Ok s) h = line-by (all_plain bytes) s (sym h)

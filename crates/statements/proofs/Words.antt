@@ -27,7 +27,7 @@ module _ {X : Type 0} (table : List ℕ → Option X) (w : List ℕ) (x : X) (kn
   not-by false h = refl
   not-by true h =
       let e : ◌≡◌ {A = Option X} (Some x) None = sym knows ∙ ap table (spelled w a b c h) ∙ unknown in
-      absurd (let z : ◌≡◌ {A = ℕ} 0 1 = cc in omega arith)
+      cc
 
   pub not-spelled : spells w a b c ≡ false
   not-spelled = not-by (spells w a b c) refl

@@ -60,6 +60,10 @@ module _ (line : ℕ) where
   only_word (comma at ∷ fs) = Err (NoForm line)
   only_word (comment w at ∷ fs) = Err (NoForm line)
 
+  -- one to five decimal digits, up to `most`
+  abbrev pub decimal_up_to : ℕ → List ℕ → Result ℕ StatementFault
+  decimal_up_to most w = or_fault (NoForm line) (number_in 10 5 w) (λ n. cond (nat_le n most) (Ok n) (Err (OutOfRange line)))
+
   -- one to five decimal digits, perhaps behind a minus: -32768 to 32767, in two's complement
   abbrev pub decimal_word : List ℕ → Result ℕ StatementFault
   decimal_word w =

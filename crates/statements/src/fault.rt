@@ -4,6 +4,8 @@ ghost use Rattle.statements.specs.declared.fault.StatementFault.TheVariants.{Fie
 ghost use Rattle.statements.specs.Faults.{reported};
 
 use fields::{FieldFault, Report};
+use std::error::Error;
+use std::fmt;
 
 /// A line that is no statement.
 #[derive(Clone, Copy, Debug)]
@@ -41,3 +43,20 @@ impl From<FieldFault> for StatementFault {
         StatementFault::Field(e)
     }
 }
+
+impl fmt::Display for StatementFault {
+    ghost use Rattle.std.specs.Prelude.{Some};
+    ghost use Rattle.statements.specs.Faults.{meaning};
+
+    ghost output = { λ f. Some (meaning f) };
+
+    fn fmt<W: fmt::Write>(&self, f: &mut fmt::Formatter<W>) -> fmt::Result {
+        match self {
+            StatementFault::Field(fault) => write!(f, "{fault}"),
+            StatementFault::NoForm { .. } => f.write_str("a statement of no form"),
+            StatementFault::OutOfRange { .. } => f.write_str("a number out of its range"),
+        }
+    }
+}
+
+impl Error for StatementFault {}

@@ -5,6 +5,7 @@ mod code;
 pub mod fault;
 mod line;
 mod operand;
+mod reader;
 pub mod statement;
 mod word;
 

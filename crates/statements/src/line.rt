@@ -6,83 +6,76 @@ ghost use Rattle.statements.specs.declared.statement.Statement.{Statement};
 ghost use Rattle.statements.specs.Grammar.{Form};
 ghost use Rattle.statements.specs.Forms.{origin_of, unlabelled_of, labelled_of, behind_comma, named_of, statement_of, line_statement};
 
-use crate::code::read_code;
 use crate::fault::StatementFault;
-use crate::operand::{expect_end, only_word, read_address};
+use crate::reader::LineReader;
 use crate::statement::Statement;
 use crate::word::label_name;
+use fields::Token;
 use fields::text::check_bytes;
-use fields::{Cursor, Token};
 
-/// The number of ORG.
-fn read_origin(fields: Cursor, line: u16) -> Result<Statement, StatementFault>
-    ensures { result ≡ origin_of line (left fields.entry) }
-{
-    let word = only_word(fields, line)?;
-    Ok(Statement::Origin(read_address(word, line)?))
-}
+impl LineReader<'_> {
+    /// The number of ORG.
+    fn read_origin(self) -> Result<Statement, StatementFault>
+        ensures { result ≡ origin_of self.entry.line (left self.entry.fields) }
+    {
+        let word = self.only_word()?;
+        Ok(Statement::Origin(self.read_address(word)?))
+    }
 
-/// A statement with no label.
-fn read_unlabelled(word: &[u8], fields: Cursor, line: u16) -> Result<Statement, StatementFault>
-    ensures { result ≡ unlabelled_of line word.now (left fields.entry) }
-{
-    match word {
-        [b'O', b'R', b'G'] => read_origin(fields, line),
-        [b'E', b'N', b'D'] => {
-            expect_end(fields, line)?;
-            Ok(Statement::End)
-        }
-        _ => {
-            let code = read_code(word, fields, line)?;
-            Ok(Statement::Lays { label: None, code })
+    /// A statement with no label.
+    fn read_unlabelled(self, word: &[u8]) -> Result<Statement, StatementFault>
+        ensures { result ≡ unlabelled_of self.entry.line word.now (left self.entry.fields) }
+    {
+        match word {
+            [b'O', b'R', b'G'] => self.read_origin(),
+            [b'E', b'N', b'D'] => {
+                self.expect_end()?;
+                Ok(Statement::End)
+            }
+            _ => {
+                let code = self.read_code(word)?;
+                Ok(Statement::Lays { label: None, code })
+            }
         }
     }
-}
 
-/// A statement behind its label.
-fn read_labelled(label: &[u8], mut fields: Cursor, line: u16) -> Result<Statement, StatementFault>
-    ensures { result ≡ labelled_of line label.now (left fields.entry) }
-{
-    let Some(Token::Name(word, _)) = fields.next() else {
-        return Err(StatementFault::NoForm { line });
-    };
-    let Some(name) = label_name(label) else {
-        return Err(StatementFault::NoForm { line });
-    };
-    let code = read_code(word, fields, line)?;
-    Ok(Statement::Lays {
-        label: Some(name),
-        code,
-    })
-}
-
-/// A statement that begins with a word, which is a label if a comma follows directly.
-fn read_named(
-    word: &[u8],
-    at: usize,
-    fields: Cursor,
-    line: u16,
-) -> Result<Statement, StatementFault>
-    ensures { result ≡ named_of line word.now (left fields.entry) (behind_comma line (at + length word.now) (left fields.entry)) }
-{
-    let mut behind = fields;
-    if let Some(Token::Comma(place)) = behind.next() {
-        if place >= at && place - at == word.len() {
-            return read_labelled(word, behind, line);
-        }
+    /// A statement behind its label.
+    fn read_labelled(mut self, label: &[u8]) -> Result<Statement, StatementFault>
+        ensures { result ≡ labelled_of self.entry.line label.now (left self.entry.fields) }
+    {
+        let Some(Token::Name(word, _)) = self.fields.next() else {
+            return Err(self.no_form());
+        };
+        let name = label_name(label).ok_or(self.no_form())?;
+        let code = self.read_code(word)?;
+        Ok(Statement::Lays {
+            label: Some(name),
+            code,
+        })
     }
-    read_unlabelled(word, fields, line)
-}
 
-/// The statement that the fields of a line make.
-fn read_statement(text: &[u8], line: u16) -> Result<Statement, StatementFault>
-    ensures { result ≡ statement_of line (fields_of text.now) }
-{
-    let mut fields = Cursor::new(text);
-    match fields.next() {
-        None | Some(Token::Comment(_, _)) => Ok(Statement::Blank),
-        Some(Token::Name(word, at)) => read_named(word, at, fields, line),
-        Some(_) => Err(StatementFault::NoForm { line }),
+    /// A statement that begins with a word, which is a label if a comma follows directly.
+    fn read_named(self, word: &[u8], at: usize) -> Result<Statement, StatementFault>
+        ensures { result ≡ named_of self.entry.line word.now (left self.entry.fields) (behind_comma self.entry.line (at + length word.now) (left self.entry.fields)) }
+    {
+        let mut behind = self;
+        if let Some(Token::Comma(place)) = behind.fields.next() {
+            if place >= at && place - at == word.len() {
+                return behind.read_labelled(word);
+            }
+        }
+        self.read_unlabelled(word)
+    }
+
+    /// The statement that the fields of a line make.
+    fn read_statement(mut self) -> Result<Statement, StatementFault>
+        ensures { result ≡ statement_of self.entry.line (left self.entry.fields) }
+    {
+        match self.fields.next() {
+            None | Some(Token::Comment(_, _)) => Ok(Statement::Blank),
+            Some(Token::Name(word, at)) => self.read_named(word, at),
+            Some(_) => Err(self.no_form()),
+        }
     }
 }
 
@@ -91,7 +84,7 @@ fn read_checked(text: &[u8], line: u16) -> Result<Statement, StatementFault>
     ensures { result ≡ line_statement line text.now }
 {
     check_bytes(text, line)?;
-    read_statement(text, line)
+    LineReader::new(text, line).read_statement()
 }
 
 /// The statement of a line, or its refusal under the line's number.

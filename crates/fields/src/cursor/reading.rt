@@ -4,7 +4,6 @@ ghost use Rattle.fields.specs.Cursors.{left, line_of};
 ghost use Rattle.fields.specs.Fields.{fields_of, Next, PartIfAny};
 
 use crate::cursor::Cursor;
-use crate::scan::{skip_spaces, word_end};
 use crate::token::Token;
 
 impl<'a> Cursor<'a> {
@@ -22,28 +21,20 @@ impl<'a> Cursor<'a> {
         ensures next { Next (left self.old) result (left self.new) }
         ensures part { PartIfAny (line_of self.old) result }
     {
-        let line = self.line;
-        let start = skip_spaces(line, self.at);
-        if start >= line.len() {
-            self.at = start;
-            return None;
-        }
-        let first = line[start];
-        if first == b'/' {
-            self.at = line.len();
-            return Some(Token::Comment(&line[start..line.len()], start));
-        }
-        if first == b',' {
-            self.at = start + 1;
-            return Some(Token::Comma(start));
-        }
-        let end = word_end(line, start + 1);
-        self.at = end;
-        let word = &line[start..end];
-        if first.is_ascii_uppercase() {
-            Some(Token::Name(word, start))
-        } else {
-            Some(Token::Number(word, start))
+        self.skip_spaces();
+        let start = self.at;
+        let first = self.line.get(start)?;
+        match *first {
+            b'/' => {
+                self.at = self.line.len();
+                Some(Token::Comment(&self.line[start..], start))
+            }
+            b',' => {
+                self.at = start + 1;
+                Some(Token::Comma(start))
+            }
+            b'A'..=b'Z' => Some(Token::Name(self.take_word(), start)),
+            _ => Some(Token::Number(self.take_word(), start)),
         }
     }
 }

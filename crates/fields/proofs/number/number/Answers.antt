@@ -1,13 +1,13 @@
-use Rattle.std.proofs.Common.{◌≡◌, ◌+◌, ◌*◌, ◌^◌, ◌<◌, length, get_or, sym, ◌∙◌, arith, rules}
-use Rattle.fields.proofs.Numbers.{digit-below, value-below, value-fits, value-more, value-bad, value-all, carried-zero}
+use Rattle.std.proofs.Common.{◌+◌, ◌*◌, ◌^◌, ◌<◌, get_or, sym, ◌∙◌, arith, rules}
+use Rattle.fields.proofs.Numbers.{digit-below, value-below, value-fits, value-more, value-bad, value-all, carried-zero, below_most}
 use Rattle.fields.proofs.number.number.Goals as goal
 use Rattle.fields.proofs.number.number.Goals.{In_ok-d}
 
 small : (c : In_ok-d) → c.in_ok-d.d < c.args.radix
 small c = digit-below c.args.radix (get_or c.args.word.now c.loop-b.b-index 0) c.in_ok-d.d c.in_ok-d.ensures
 
-fits : (c : In_ok-d) → c.loop-b.value * c.args.radix + c.in_ok-d.d < 2 ^ 20
-fits c = value-fits c.loop-b.value c.args.radix c.in_ok-d.d c.loop-b.b-index c.loop-b.invariant.0 (omega arith) (small c) (omega arith)
+fits : (c : In_ok-d) → c.loop-b.value * c.args.radix + c.in_ok-d.d < c.args.radix ^ c.args.most
+fits c = value-fits c.loop-b.value c.args.radix c.in_ok-d.d c.loop-b.b-index c.args.most c.loop-b.invariant.0 (small c) (omega arith)
 
 pub returns-in_err-d : goal.returns-in_err-d
 returns-in_err-d c =
@@ -22,12 +22,14 @@ overflow_add-value c = omega (arith, fits c)
 
 pub loop-b-preserved : goal.loop-b-preserved
 loop-b-preserved c = (
-  value-below c.loop-b.value c.args.radix c.in_ok-d.d c.loop-b.b-index c.loop-b.invariant.0 (omega arith) (small c),
+  value-below c.loop-b.value c.args.radix c.in_ok-d.d c.loop-b.b-index c.loop-b.invariant.0 (small c),
   c.loop-b.invariant.1 ∙ value-more c.args.word.now c.args.radix c.loop-b.value c.loop-b.b-index c.in_ok-d.d (omega arith) c.in_ok-d.ensures,
 )
 
-pub returns : goal.returns
-returns c =
+pub returns-clause-value : goal.returns-clause-value
+returns-clause-value c =
     let e = sym (carried-zero c.args.radix c.args.word.now) ∙ c.loop-b.invariant.1 ∙ value-all c.args.word.now c.args.radix c.loop-b.value c.loop-b.b-index (omega arith) in
-    let n : c.loop-b.b-index ≡ length c.args.word.now = omega arith in
-    record { value = search rules; below = rw (← n) c.loop-b.invariant.0 }
+    search rules
+
+pub returns-clause-below : goal.returns-clause-below
+returns-clause-below c = below_most c.loop-b.value c.args.radix c.loop-b.b-index c.args.most c.loop-b.invariant.0 (search rules) (omega arith)

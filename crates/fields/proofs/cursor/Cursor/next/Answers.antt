@@ -1,37 +1,28 @@
-use Rattle.std.proofs.Common.{drop, refl, ◌∙◌, arith, rules}
-use Rattle.std.proofs.lemmas.List.{take_rest}
-use Rattle.fields.proofs.Fields.{none_left, comment-here, comma-here, name-here, number-here, part}
+use Rattle.std.proofs.Common.{◌≡◌, ◌≢◌, ◌<◌, false, eqb, length, get_or, ◌∙◌, sym, rules}
+use Rattle.fields.specs.Fields.{letter}
+use Rattle.fields.proofs.Fields.{name-here, number-here}
 use Rattle.fields.proofs.cursor.Cursor.next.Goals as goal
+use Rattle.fields.proofs.cursor.Cursor.next.Goals.{in_default-via-then-first-lt65, in_default-via-else-first-lt65+else-first-lt91}
 
-pub returns-then-start-line : goal.returns-then-start-line
-returns-then-start-line c =
-    let e = none_left c.args.self.now.line.now c.skip_spaces-start.result (omega arith) in
-    record { line = refl; next = (c.skip_spaces-start.ensures.same ∙ e, e); part = tt }
+pub returns-in-65-to-90-clause-next : goal.returns-in-65-to-90-clause-next
+returns-in-65-to-90-clause-next c =
+    let xs = c.skip_spaces.new.self.line.now in
+    let i = c.skip_spaces.new.self.at in
+    let b = c.in_ok-first.first.now in
+    let h : i < length xs = search rules in
+    let here : get_or xs i 0 ≡ b = search rules in
+    let s : b ≢ 32 = search (rules, c.skip_spaces.ensures.stops) in
+    sym c.skip_spaces.ensures.left ∙ name-here xs _ _ i _ b h here s c.take_word.ensures.place c.take_word.ensures.line c.take_word.ensures.word (search rules) (search rules)
 
-pub returns-then-first-eq47 : goal.returns-then-first-eq47
-returns-then-first-eq47 c = record {
-  line = refl;
-  next = c.skip_spaces-start.ensures.same ∙ comment-here c.args.self.now.line.now c.skip_spaces-start.result (omega arith) (search rules) (search rules);
-  part = take_rest c.args.self.now.line.now c.skip_spaces-start.result;
-}
-
-pub returns-then-first-eq44 : goal.returns-then-first-eq44
-returns-then-first-eq44 c = record {
-  line = refl;
-  next = c.skip_spaces-start.ensures.same ∙ comma-here c.args.self.now.line.now c.skip_spaces-start.result (omega arith) (search rules) (search rules) (search rules);
-  part = search rules;
-}
-
-pub returns-then-is_ascii_uppercase : goal.returns-then-is_ascii_uppercase
-returns-then-is_ascii_uppercase c = record {
-  line = refl;
-  next = c.skip_spaces-start.ensures.same ∙ name-here c.args.self.now.line.now c.skip_spaces-start.result c.word_end-end.result (omega arith) (search rules) (search rules) (search rules) c.word_end-end.ensures.place (search rules);
-  part = part _ (drop c.skip_spaces-start.result c.args.self.now.line.now);
-}
-
-pub returns-else-is_ascii_uppercase : goal.returns-else-is_ascii_uppercase
-returns-else-is_ascii_uppercase c = record {
-  line = refl;
-  next = c.skip_spaces-start.ensures.same ∙ number-here c.args.self.now.line.now c.skip_spaces-start.result c.word_end-end.result (omega arith) (search rules) (search rules) (search rules) c.word_end-end.ensures.place (search rules);
-  part = part _ (drop c.skip_spaces-start.result c.args.self.now.line.now);
-}
+pub returns-in_default-clause-next : goal.returns-in_default-clause-next
+returns-in_default-clause-next c =
+    let xs = c.skip_spaces.new.self.line.now in
+    let i = c.skip_spaces.new.self.at in
+    let b = c.in_ok-first.first.now in
+    let h : i < length xs = search rules in
+    let here : get_or xs i 0 ≡ b = search rules in
+    let s : b ≢ 32 = search (rules, c.skip_spaces.ensures.stops) in
+    let e : eqb b 47 ≡ false = search rules in
+    let f : eqb b 44 ≡ false = search rules in
+    let l : letter b ≡ false = elim c.in_default.branch [ in_default-via-then-first-lt65 w ↦ search rules | in_default-via-else-first-lt65+else-first-lt91 w ↦ search rules ] in
+    sym c.skip_spaces.ensures.left ∙ number-here xs _ _ i _ b h here s c.take_word-in_default.ensures.place c.take_word-in_default.ensures.line c.take_word-in_default.ensures.word e f l

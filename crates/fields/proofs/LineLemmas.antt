@@ -1,20 +1,11 @@
 -- Where the first line of a text ends.
-use Rattle.std.proofs.Common.{◌≡◌, ℕ, suc, ◌+◌, ◌<◌, ◌≤◌, true, false, cond, eqb, List, [], ◌∷◌, length, get_or, take, drop, refl, ap, ◌∙◌, add-one, arith, length-drop}
-use Rattle.std.proofs.lemmas.List.{at_drop_more, at_drop_all}
+use Rattle.std.proofs.Common.{◌≡◌, ℕ, suc, ◌+◌, ◌<◌, true, false, cond, eqb, List, [], ◌∷◌, length, take, drop, refl, ap, ◌∙◌, add-one, arith, sym, length-drop, Some, None}
+use Rattle.std.specs.List.{position, position_or_len}
+use Rattle.std.proofs.lemmas.Bool.Decides.{nat_tests}
+use Rattle.std.proofs.lemmas.List.Sums.{prefix_len-le-length}
+use Rattle.std.proofs.lemmas.List.{take_all, drop_all}
+use Rattle.fields.proofs.Fields.{counted}
 use Rattle.fields.specs.Lines.{prepend, lines_of, line_length}
-
-module _ (xs : List ℕ) (i : ℕ) where
-  length-step : i < length xs → line_length (drop i xs) ≡ cond (eqb (get_or xs i 0) 10) 0 (suc (line_length (drop (i + 1) xs)))
-  length-step h = at_drop_more line_length xs i 0 h
-
-  pub length_more : i < length xs → eqb (get_or xs i 0) 10 ≡ false → line_length (drop i xs) ≡ suc (line_length (drop (i + 1) xs))
-  length_more h e = length-step h ∙ rw e
-
-  pub length-stop : i < length xs → eqb (get_or xs i 0) 10 ≡ true → line_length (drop i xs) ≡ 0
-  length-stop h e = length-step h ∙ rw e
-
-  pub length-all : length xs ≤ i → line_length (drop i xs) ≡ 0
-  length-all h = at_drop_all line_length xs i h
 
 abbrev First : List ℕ → Type 0
 First xs = lines_of xs ≡ take (line_length xs) xs ∷ lines_of (drop (suc (line_length xs)) xs)
@@ -41,3 +32,23 @@ module _ (xs : List ℕ) (n : ℕ) (is : n ≡ line_length xs) (some : 0 < lengt
   leads line rest e f =
       let s = split line rest e f in
       (first xs some ∙ rw (← s.0, ← s.1), rw (f, length-drop) (omega arith))
+
+-- where the first byte 10 stands
+module _ (xs : List ℕ) where
+  counted-line : line_length xs ≡ position_or_len (λ b. eqb b 10) xs
+  counted-line = counted line_length (λ b. eqb b 10) refl (λ b bs. refl) xs
+
+  pub line_at : (n : ℕ) → position (λ b. eqb b 10) xs ≡ Some n → (n ≡ line_length xs) × (n < length xs)
+  line_at n h = grind (arith, counted-line, nat_tests)
+
+  line-all : position (λ b. eqb b 10) xs ≡ None → line_length xs ≡ length xs
+  line-all h = grind (arith, counted-line, nat_tests, prefix_len-le-length)
+
+  -- a text with no byte 10 is one line
+  pub last : position (λ b. eqb b 10) xs ≡ None → 0 < length xs
+      → ((xs ≡ take (line_length xs) xs) × ([] ≡ drop (suc (line_length xs)) xs)) × ((lines_of xs ≡ xs ∷ []) × (0 < length xs))
+  last h some =
+      let all = line-all h in
+      let t : take (line_length xs) xs ≡ xs = rw all (take_all (length xs) xs (omega arith)) in
+      let d : drop (suc (line_length xs)) xs ≡ [] = drop_all (suc (line_length xs)) xs (omega arith) in
+      ((sym t, sym d), (first xs some ∙ rw (t, d), some))
