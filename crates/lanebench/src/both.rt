@@ -1,45 +1,30 @@
 //! Both benches at once.
 use crate::options::Options;
-use crate::report::{count_calls, same_registers};
+use crate::report::Tally;
 use cosimulation::{Cosimulation, cosimulate};
 use line::{Cue, ScriptLine};
 use machine::Call;
-use memory::{Memory, WordMemory};
+use memory::WordMemory;
 use sheets::LayingFault;
 use sheets::assembly::assemble;
 use std::fs;
+use std::iter::repeat_n;
 
 /// How many characters may be printed.
 const PAPER: usize = 4096;
 
 /// A line on which these characters arrive, each as soon as it can.
 fn script(rt: &HostRuntime, input: &str) -> anyhow::Result<ScriptLine> {
-    let mut cues = Vec::new(rt.alloc());
-    for character in input.bytes() {
-        cues.push(Cue { wait: 0, character })?;
-    }
-    Ok(ScriptLine::new(cues, vec![in rt.alloc(); 0; PAPER]?))
+    let cues = input.bytes().map(|character| Cue { wait: 0, character });
+    Ok(ScriptLine::new(cues.collect(rt.alloc())?, vec![in rt.alloc(); 0; PAPER]?))
 }
 
 /// The calls of a session: aim, start, and then clocks.
 fn session(rt: &HostRuntime, options: Options) -> anyhow::Result<Vec<Call>> {
-    let mut calls = Vec::new(rt.alloc());
-    calls.push(Call::Aim(options.start))?;
-    calls.push(Call::Start)?;
-    for _ in 0..options.clocks {
-        calls.push(Call::Clock)?;
-    }
-    Ok(calls)
-}
-
-/// Whether both memories hold the same words.
-fn same_words(first: &WordMemory, second: &WordMemory) -> bool {
-    for address in 0..4096u16 {
-        if first.fetch(address) != second.fetch(address) {
-            return false;
-        }
-    }
-    true
+    let calls = [Call::Aim(options.start), Call::Start]
+        .into_iter()
+        .chain(repeat_n(Call::Clock, usize::from(options.clocks)));
+    Ok(calls.collect(rt.alloc())?)
 }
 
 /// Lays the sheet, and says so; false where it is refused.
@@ -51,10 +36,7 @@ fn lay(rt: &HostRuntime, name: &str, text: &[u8], memory: &mut WordMemory) -> an
         }
         Err(LayingFault::Sheet(fault)) => {
             let report = fault.report();
-            println!(rt;
-                "{name}: refused with {} on line {}, layer {}",
-                report.number, report.line, report.layer
-            )?;
+            println!(rt; "{name}: refused with {report}")?;
             Ok(false)
         }
         Err(LayingFault::MemorySize) => Ok(false),
@@ -77,7 +59,7 @@ fn tell_agreement(
 ) -> anyhow::Result<()> {
     if pair.inside {
         rt.println("the clock bench is inside a cycle, so the registers are not compared")?;
-    } else if same_registers(pair) && words && papers {
+    } else if pair.computer.visible() == pair.twin.visible() && words && papers {
         rt.println("both benches agree: registers, words and printed characters")?;
     } else {
         rt.println("THE BENCHES DIFFER")?;
@@ -111,7 +93,7 @@ pub(crate) fn try_both(rt: &HostRuntime, options: Options) -> anyhow::Result<()>
         &mut twin_memory,
         &mut twin_line,
     )?;
-    let all = count_calls(calls.as_slice(), pair.outcomes.as_slice());
+    let all = Tally::of(calls.as_slice(), pair.outcomes.as_slice());
     println!(rt;
         "clock bench: {} calls, {} clocks granted, {} cycles, {} refusals",
         all.calls, all.clocks, all.cycles, all.refusals
@@ -124,7 +106,7 @@ pub(crate) fn try_both(rt: &HostRuntime, options: Options) -> anyhow::Result<()>
     tell_agreement(
         rt,
         &pair,
-        same_words(&memory, &twin_memory),
+        memory == twin_memory,
         line.printed() == twin_line.printed(),
     )
 }

@@ -7,7 +7,7 @@ mod both;
 mod options;
 mod report;
 
-use options::{Asked, read_options};
+use options::read_options;
 
 const USAGE: &str = "usage: lanebench --both SHEET [--start ADDRESS] [--clocks N] [--input TEXT]
 
@@ -16,17 +16,14 @@ clocks (decimal, 1000 unless told) on the clock bench, and the cycles that these
 The characters of TEXT arrive one after the other. It tells what came of it, and whether both benches agree.";
 
 fn run(rt: &HostRuntime) -> anyhow::Result<()> {
-    let mut words = Vec::new(rt.alloc());
-    for word in env::args(rt)?.skip(1) {
-        words.push(word)?;
-    }
+    let words: Vec<String> = env::args(rt)?.skip(1).collect(rt.alloc())?;
     match read_options(words.as_slice()) {
-        Asked::Help => rt.println(USAGE)?,
-        Asked::Unknown(word) => {
-            println!(rt; "lanebench does not know '{word}'")?;
+        Ok(Some(options)) => both::try_both(rt, options)?,
+        Ok(None) => rt.println(USAGE)?,
+        Err(unknown) => {
+            rt.println(unknown)?;
             rt.println(USAGE)?;
         }
-        Asked::Both(options) => both::try_both(rt, options)?,
     }
     Ok(())
 }

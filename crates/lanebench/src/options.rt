@@ -1,5 +1,6 @@
 //! What the words after the program's name ask for.
 use fields::number::hexadecimal;
+use std::fmt;
 
 /// A sheet to try, and how.
 #[derive(Clone, Copy)]
@@ -10,61 +11,62 @@ pub(crate) struct Options<'a> {
     pub input: &'a str,
 }
 
-/// What is asked for.
-pub(crate) enum Asked<'a> {
-    Help,
-    Unknown(&'a str),
-    Both(Options<'a>),
-}
+/// A word that is no option, or one with a value that it does not take.
+#[derive(Clone, Copy, Debug)]
+pub(crate) struct Unknown<'a>(&'a str);
 
-/// One option and the word behind it, taken into the others; none where it is not known.
-fn taken<'a>(options: Options<'a>, option: &str, value: &'a str) -> Option<Options<'a>> {
-    match option {
-        "--both" => Some(Options {
-            sheet: value,
-            ..options
-        }),
-        "--start" => {
-            let start = hexadecimal(value.as_bytes())?;
-            Some(Options { start, ..options })
-        }
-        "--clocks" => {
-            let clocks = value.parse::<u16>().ok()?;
-            Some(Options { clocks, ..options })
-        }
-        "--input" => Some(Options {
-            input: value,
-            ..options
-        }),
-        _ => None,
+impl fmt::Display for Unknown<'_> {
+    fn fmt<W: fmt::Write>(&self, f: &mut fmt::Formatter<W>) -> fmt::Result {
+        let word = self.0;
+        write!(f, "lanebench does not know '{word}'")
     }
 }
 
-/// Reads the words in pairs: an option and its value.
-pub(crate) fn read_options(words: &[String]) -> Asked<'_> {
+impl<'a> Options<'a> {
+    /// These with one option more, and the word behind it; none where it is not known.
+    fn with(self, option: &str, value: &'a str) -> Option<Options<'a>> {
+        match option {
+            "--both" => Some(Options {
+                sheet: value,
+                ..self
+            }),
+            "--start" => {
+                let start = hexadecimal(value.as_bytes())?;
+                Some(Options { start, ..self })
+            }
+            "--clocks" => {
+                let clocks = value.parse::<u16>().ok()?;
+                Some(Options { clocks, ..self })
+            }
+            "--input" => Some(Options {
+                input: value,
+                ..self
+            }),
+            _ => None,
+        }
+    }
+}
+
+/// Reads the words in pairs: an option and its value. None where help is asked for, or no sheet is named.
+pub(crate) fn read_options(words: &[String]) -> Result<Option<Options<'_>>, Unknown<'_>> {
     let mut options = Options {
         sheet: "",
         start: 0,
         clocks: 1000,
         input: "",
     };
-    let mut rest = words;
-    while let [option, others @ ..] = rest {
-        let [value, behind @ ..] = others else {
-            return if option.as_str() == "--help" {
-                Asked::Help
-            } else {
-                Asked::Unknown(option.as_str())
-            };
-        };
-        let Some(more) = taken(options, option.as_str(), value.as_str()) else {
-            return Asked::Unknown(option.as_str());
-        };
-        options = more;
-        rest = behind;
+    for pair in words.chunks(2) {
+        match pair {
+            [option, value] => match options.with(option.as_str(), value.as_str()) {
+                Some(more) => options = more,
+                None => return Err(Unknown(option.as_str())),
+            },
+            [option] if option.as_str() != "--help" => return Err(Unknown(option.as_str())),
+            _ => return Ok(None),
+        }
     }
     if options.sheet.is_empty() {
-        return Asked::Help;
+        return Ok(None);
     }
-    Asked::Both(options)
+    Ok(Some(options))
 }

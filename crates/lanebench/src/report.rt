@@ -1,5 +1,5 @@
-//! What came of a co-simulation, counted and compared.
-use cosimulation::{Cosimulation, Outcome};
+//! What came of a co-simulation, counted.
+use cosimulation::Outcome;
 use machine::Call;
 
 /// How many calls, granted clocks, cycles and refusals there were.
@@ -11,50 +11,22 @@ pub(crate) struct Tally {
     pub refusals: usize,
 }
 
-/// One call more.
-fn counted(tally: Tally, call: Call, outcome: Outcome) -> Tally {
-    let mut more = tally;
-    more.calls = more.calls.saturating_add(1);
-    match outcome {
-        Err(_) => more.refusals = more.refusals.saturating_add(1),
-        Ok(clocks) => {
-            if let Call::Clock = call {
-                more.clocks = more.clocks.saturating_add(1);
-                if clocks > 0 {
-                    more.cycles = more.cycles.saturating_add(1);
-                }
-            }
+impl Tally {
+    /// Counts the calls by what they returned.
+    pub(crate) fn of(calls: &[Call], outcomes: &[Outcome]) -> Tally {
+        let clocks = calls
+            .iter()
+            .zip(outcomes.iter())
+            .filter(|(call, outcome)| **call == Call::Clock && outcome.is_ok());
+        let cycles = calls
+            .iter()
+            .zip(outcomes.iter())
+            .filter(|(call, outcome)| **call == Call::Clock && matches!(outcome, Ok(1..)));
+        Tally {
+            calls: calls.iter().zip(outcomes.iter()).count(),
+            clocks: clocks.count(),
+            cycles: cycles.count(),
+            refusals: outcomes.iter().filter(|outcome| outcome.is_err()).count(),
         }
     }
-    more
-}
-
-/// Counts the calls by what they returned.
-pub(crate) fn count_calls(calls: &[Call], outcomes: &[Outcome]) -> Tally {
-    let mut all = Tally {
-        calls: 0,
-        clocks: 0,
-        cycles: 0,
-        refusals: 0,
-    };
-    for (call, outcome) in calls.iter().zip(outcomes.iter()) {
-        all = counted(all, *call, *outcome);
-    }
-    all
-}
-
-/// Whether both computers show the same registers to a program.
-pub(crate) fn same_registers(pair: &Cosimulation) -> bool {
-    let first = pair.computer.registers();
-    let twin = pair.twin.visible();
-    first.ac == twin.ac
-        && first.e == twin.e
-        && first.pc == twin.pc
-        && first.ien == twin.ien
-        && first.r == twin.r
-        && first.s == twin.s
-        && first.port.inpr == twin.port.inpr
-        && first.port.outr == twin.port.outr
-        && first.port.fgi == twin.port.fgi
-        && first.port.fgo == twin.port.fgo
 }
