@@ -1,22 +1,18 @@
 //! Both benches side by side.
-use crate::by_cycles::CycleSession;
 use crate::counts::{Counts, Limit, Stop, count_outcomes};
 use crate::ending::Ending;
+use crate::run::Run;
 use crate::setup::Setup;
 use crate::trouble::Trouble;
 use cosimulation::{Cosimulation, Outcome, cosimulate};
+use cycle_bench::CycleComputer;
 use machine::Call;
-use memory::{ImageMemory, Memory};
 
 /// The calls of a session: aim, start, and so many clocks.
 fn session_calls(rt: &HostRuntime, from: u16, clocks: u64) -> Result<Vec<Call>, Trouble> {
-    let mut calls = Vec::new(rt.alloc());
-    calls.push(Call::Aim(from))?;
-    calls.push(Call::Start)?;
-    for _ in 0..clocks {
-        calls.push(Call::Clock)?;
-    }
-    Ok(calls)
+    let first = [Call::Aim(from), Call::Start].into_iter();
+    let calls = first.chain((0..clocks).map(|_| Call::Clock));
+    Ok(calls.collect(rt.alloc())?)
 }
 
 /// What the clocks behind the first two calls made.
@@ -34,16 +30,6 @@ fn stop_of(pair: &Cosimulation, stop: Stop) -> Stop {
     } else {
         stop
     }
-}
-
-/// Whether both memories hold the same words.
-fn same_words(first: &ImageMemory, second: &ImageMemory) -> bool {
-    for address in 0..4096u16 {
-        if first.fetch(address) != second.fetch(address) {
-            return false;
-        }
-    }
-    true
 }
 
 /// Tells whether what can be compared is the same.
@@ -64,9 +50,9 @@ fn tell_agreement(
 
 /// How many clocks a session takes, which the instruction bench alone can tell, and why it ends.
 fn clocks_of(rt: &HostRuntime, setup: &Setup, limit: Limit) -> Result<(u64, Stop), Trouble> {
-    let mut session = CycleSession::start(rt, setup)?;
-    let stop = session.run(rt, limit)?;
-    Ok((session.counts.clocks.min(limit.clocks), stop))
+    let mut run: Run<CycleComputer> = Run::start(rt, setup)?;
+    let stop = run.run(rt, limit)?;
+    Ok((run.counts.clocks.min(limit.clocks), stop))
 }
 
 /// Makes the calls on the clock bench and their short list on the instruction bench, and tells whether they agree.
@@ -85,7 +71,7 @@ pub(crate) fn run_both(rt: &HostRuntime, setup: &Setup, limit: Limit) -> Result<
         &mut twin_memory,
         &mut twin_line,
     )?;
-    let same = same_words(&memory, &twin_memory) && line.printed() == twin_line.printed();
+    let same = memory == twin_memory && line.printed() == twin_line.printed();
     tell_agreement(rt, &pair, same)?;
     Ok(Ending {
         visible: pair.computer.visible(),

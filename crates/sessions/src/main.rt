@@ -1,12 +1,12 @@
 //! Tries a sheet on a bench: by whole instructions, clock by clock, or on both benches at once.
 #![tactic(auto)]
 
+mod bench;
 mod both;
-mod by_clocks;
-mod by_cycles;
 mod counts;
 mod ending;
 mod progress;
+mod run;
 mod say;
 mod script;
 mod session;

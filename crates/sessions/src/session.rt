@@ -1,13 +1,15 @@
 //! One session: set up, run, told and saved.
+use crate::bench::Bench;
 use crate::both::run_both;
-use crate::by_clocks::ClockSession;
-use crate::by_cycles::CycleSession;
 use crate::counts::{Counts, Limit, Stop};
 use crate::ending::Ending;
+use crate::run::Run;
 use crate::setup::{Setup, set_up};
 use crate::trouble::Trouble;
 use crate::usage::USAGE;
 use crate::word_at;
+use clock_bench::ClockComputer;
+use cycle_bench::CycleComputer;
 use memory::ImageMemory;
 use options::Options;
 use std::fs;
@@ -28,36 +30,20 @@ fn check_together(options: Options) -> Result<(), Trouble> {
     }
 }
 
-/// A session by whole instructions.
-fn run_by_cycles(
+/// A session on one bench.
+fn run_on<B: Bench>(
     rt: &HostRuntime,
     setup: &Setup,
     limit: Limit,
     trace: bool,
 ) -> Result<Ending, Trouble> {
-    let mut session = CycleSession::start(rt, setup)?;
+    let mut run: Run<B> = Run::start(rt, setup)?;
     let stop = if trace {
-        session.trace(rt, limit)?
+        run.trace(rt, limit)?
     } else {
-        session.run(rt, limit)?
+        run.run(rt, limit)?
     };
-    Ok(session.end(stop))
-}
-
-/// A session clock by clock.
-fn run_by_clocks(
-    rt: &HostRuntime,
-    setup: &Setup,
-    limit: Limit,
-    trace: bool,
-) -> Result<Ending, Trouble> {
-    let mut session = ClockSession::start(rt, setup)?;
-    let stop = if trace {
-        session.trace(rt, limit)?
-    } else {
-        session.run(rt, limit)?
-    };
-    Ok(session.end(stop))
+    Ok(run.end(stop))
 }
 
 /// Tells how fast a session went.
@@ -109,9 +95,9 @@ fn run(rt: &HostRuntime, setup: &Setup, options: Options) -> Result<Ending, Trou
     if options.both {
         run_both(rt, setup, limit)
     } else if options.clock {
-        run_by_clocks(rt, setup, limit, options.trace)
+        run_on::<ClockComputer>(rt, setup, limit, options.trace)
     } else {
-        run_by_cycles(rt, setup, limit, options.trace)
+        run_on::<CycleComputer>(rt, setup, limit, options.trace)
     }
 }
 

@@ -1,0 +1,94 @@
+//! A session on one bench, step by step.
+use crate::bench::Bench;
+use crate::counts::{Counts, Limit, Stop};
+use crate::ending::Ending;
+use crate::progress::{CHUNK, tell_progress};
+use crate::say::say_line;
+use crate::setup::Setup;
+use crate::trouble::Trouble;
+use line::ScriptLine;
+use memory::ImageMemory;
+
+/// A bench with its memory and its line, and what was made on it.
+#[derive(Drop)]
+pub struct Run<B: Bench> {
+    computer: B,
+    memory: ImageMemory,
+    line: ScriptLine,
+    pub counts: Counts,
+    last: Option<B::Step>,
+}
+
+impl<B: Bench> Run<B> {
+    /// A new computer, aimed and started.
+    pub(crate) fn start(rt: &HostRuntime, setup: &Setup) -> Result<Run<B>, Trouble> {
+        let mut computer = B::fresh();
+        let _ = computer.aim(setup.from);
+        let _ = computer.start();
+        Ok(Run {
+            computer,
+            memory: setup.memory()?,
+            line: setup.line(rt)?,
+            counts: Counts::nothing(),
+            last: None,
+        })
+    }
+
+    /// What the session leaves.
+    pub(crate) fn end(self, stop: Stop) -> Ending {
+        Ending {
+            visible: self.computer.seen(),
+            registers: self.computer.all(),
+            memory: self.memory,
+            line: self.line,
+            counts: self.counts,
+            stop,
+        }
+    }
+
+    /// One step, unless a limit is reached. Answers why the session ends, if it does.
+    fn step(&mut self, limit: Limit) -> Option<Stop> {
+        if self.counts.reach(limit) {
+            return Some(Stop::Budget);
+        }
+        let step = self.computer.next_step(&self.memory, self.last);
+        self.last = Some(step);
+        if let Ok(answer) = self.computer.clock(&mut self.memory, &mut self.line) {
+            self.counts = B::counted(self.counts, answer);
+        }
+        if self.computer.seen().s {
+            None
+        } else {
+            Some(Stop::Halted(B::began(step)))
+        }
+    }
+
+    /// Steps until the session ends, with word of it now and then.
+    pub(crate) fn run(&mut self, rt: &HostRuntime, limit: Limit) -> Result<Stop, Trouble> {
+        for _ in 0..u64::MAX {
+            if let Some(stop) = (0..CHUNK).find_map(|_| self.step(limit)) {
+                return Ok(stop);
+            }
+            tell_progress(rt, self.counts)?;
+        }
+        Ok(Stop::Budget)
+    }
+
+    /// The same with a row for each step.
+    pub(crate) fn trace(&mut self, rt: &HostRuntime, limit: Limit) -> Result<Stop, Trouble> {
+        rt.println(B::heading())?;
+        for _ in 0..u64::MAX {
+            if self.counts.reach(limit) {
+                break;
+            }
+            let stop = self.step(limit);
+            if let Some(step) = self.last {
+                say_line(rt, self.computer.row(rt.alloc(), step)?.as_slice())?;
+            }
+            if let Some(stop) = stop {
+                return Ok(stop);
+            }
+        }
+        Ok(Stop::Budget)
+    }
+}
