@@ -1,7 +1,6 @@
 //! Reading a sheet line by line.
-ghost use Rattle.std.specs.Prelude.{◌≡◌, ◌+◌, ◌<◌, ◌≤◌, length, OnOk};
-ghost use Rattle.fields.specs.Lines.{lines_of};
-ghost use Rattle.sheets.specs.Sheets.{read_from};
+ghost use Rattle.std.specs.Prelude.{◌≡◌, ◌<◌, length, IfOk, OnOk, MatchResult};
+ghost use Rattle.sheets.specs.Sheets.{refused, sheet_of};
 ghost use Rattle.sheets.specs.Walks.{ahead, Leads};
 
 use crate::fault::SheetFault;
@@ -24,22 +23,23 @@ fn place(line: u16, address: u32, label: Option<Name>, code: Code) -> Step
 
 impl<'a> Walk<'a> {
     /// A sheet of which nothing is read yet.
-    pub(crate) fn new(text: &'a [u8]) -> Walk<'a>
-        requires { length text.now ≤ 65535 }
-        ensures ahead { ahead result ≡ read_from 0 0 (lines_of text.now) }
-        ensures lines { result.lines ≡ 0 }
+    pub(crate) fn new(text: &'a [u8]) -> Result<Walk<'a>, SheetFault>
+        ensures ahead { MatchResult result (λ walk. sheet_of text.now ≡ ahead walk) (λ e. sheet_of text.now ≡ refused e) }
+        ensures bytes { IfOk result (λ walk. walk.rest.now ≡ text.now) }
     {
-        Walk {
+        if text.len() > 65535 {
+            return Err(SheetFault::TextTooLong);
+        }
+        Ok(Walk {
             rest: text,
             lines: 0,
             address: 0,
-        }
+        })
     }
 
     /// One line more.
     pub(crate) fn step(&mut self) -> Result<Step, SheetFault>
         ensures leads { Leads (ahead self.old) result (ahead self.new) }
-        ensures lines { OnOk result (self.new.lines ≡ self.old.lines + 1) }
         ensures falls { OnOk result (length self.new.rest.now < length self.old.rest.now) }
     {
         let Some((line, rest)) = first_line(self.rest) else {
