@@ -51,10 +51,7 @@ fn lay(rt: &HostRuntime, name: &str, text: &[u8], memory: &mut WordMemory) -> an
         }
         Err(LayingFault::Sheet(fault)) => {
             let report = fault.report();
-            println!(rt;
-                "{name}: refused with {} on line {}, layer {}",
-                report.number, report.line, report.layer
-            )?;
+            println!(rt; "{name}: refused with {report}")?;
             Ok(false)
         }
         Err(LayingFault::MemorySize) => Ok(false),
