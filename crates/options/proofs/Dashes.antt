@@ -1,22 +1,25 @@
 -- How far the first `-` is.
-use Rattle.std.proofs.Common.{◌≡◌, ℕ, suc, ◌+◌, ◌<◌, ◌≤◌, true, false, cond, eqb, List, length, get_or, take, drop, Option, ◌∙◌, ne_eqb}
+use Rattle.std.proofs.Common.{◌≡◌, ℕ, ◌+◌, eqb, eq-eqb, false, List, length, take, drop, Some, None, refl, arith}
+use Rattle.std.specs.List.{position, position_or_len}
 use Rattle.std.specs.Option.{option_zip}
-use Rattle.std.proofs.lemmas.List.{at_drop_more, at_drop_all}
+use Rattle.std.proofs.lemmas.Bool.Decides.{nat_tests}
+use Rattle.std.proofs.lemmas.List.Sums.{prefix_len-le-length}
+use Rattle.fields.proofs.Fields.{counted}
 use Rattle.options.specs.Values.{dash_at, address_in, addresses_in}
 
-module _ (xs : List ℕ) (i : ℕ) where
-  dash-step : i < length xs → dash_at (drop i xs) ≡ cond (eqb (get_or xs i 0) 45) 0 (suc (dash_at (drop (i + 1) xs)))
-  dash-step h = at_drop_more dash_at xs i 0 h
+module _ (w : List ℕ) where
+  dash-counted : dash_at w ≡ position_or_len (λ b. eqb b 45) w
+  dash-counted = counted dash_at (λ b. eqb b 45) refl (λ b bs. refl) w
 
-  pub dash-more : i < length xs → eqb (get_or xs i 0) 45 ≡ false → dash_at (drop i xs) ≡ suc (dash_at (drop (i + 1) xs))
-  dash-more h e = dash-step h ∙ rw e
+  -- the addresses on both sides of the first `-`
+  pub around : (n : ℕ) → position (λ b. eqb b 45) w ≡ Some n → addresses_in w ≡ option_zip (address_in (take n w)) (address_in (drop (n + 1) w))
+  around n h =
+      let at : dash_at w ≡ n = grind (arith, dash-counted, nat_tests) in
+      let within : eqb n (length w) ≡ false = grind (arith, nat_tests, at, dash-counted) in
+      rw (at, within)
 
-  pub dash-stop : i < length xs → eqb (get_or xs i 0) 45 ≡ true → dash_at (drop i xs) ≡ 0
-  dash-stop h e = dash-step h ∙ rw e
-
-  pub dash-all : length xs ≤ i → dash_at (drop i xs) ≡ 0
-  dash-all h = at_drop_all dash_at xs i h
-
--- the addresses on both sides of the first `-`
-pub around : (w v u : List ℕ) (n : ℕ) (x y : Option ℕ) → n ≡ dash_at w → (n ≡ length w → ⊥) → v ≡ take n w → u ≡ drop (n + 1) w → x ≡ address_in v → y ≡ address_in u → option_zip x y ≡ addresses_in w
-around w v u n x y e h p q f g = rw (← e, ne_eqb n (length w) h, ← p, ← q, ← f, ← g)
+  -- or the one address
+  pub alone : position (λ b. eqb b 45) w ≡ None → addresses_in w ≡ option_zip (address_in w) (address_in w)
+  alone h =
+      let at : dash_at w ≡ length w = grind (arith, dash-counted, nat_tests, prefix_len-le-length) in
+      rw (at, eq-eqb (length w) (length w) refl)

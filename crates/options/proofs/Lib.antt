@@ -1,5 +1,4 @@
 pub mod Named
-pub mod Numbers
 pub mod Dashes
 pub mod Turns
 pub mod Known

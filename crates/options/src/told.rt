@@ -3,8 +3,9 @@ ghost use Rattle.std.specs.Prelude.{◌≡◌, [], ◌∷◌, if◌then◌else�
 ghost use Rattle.options.specs.Mentions.{alone, sheet_at, valued_at, fits, told};
 
 use crate::options::Options;
-use crate::value::{address, addresses, number, number_up_to};
+use crate::value::{address, addresses, number_up_to};
 use crate::word::{Flag, Valued};
+use fields::number::long_decimal;
 
 /// The options after the sheet at this place.
 pub(crate) fn with_sheet(options: Options, place: usize) -> Options
@@ -47,8 +48,8 @@ pub(crate) fn with_value(
         Valued::Script => o.script = Some(place),
         Valued::Input => o.input = Some(place),
         Valued::From => o.from = Some(address(value)?),
-        Valued::Cycles => o.cycles = Some(number(value)?),
-        Valued::Clocks => o.clocks = Some(number(value)?),
+        Valued::Cycles => o.cycles = Some(long_decimal(value)?),
+        Valued::Clocks => o.clocks = Some(long_decimal(value)?),
         Valued::Wait => o.wait = number_up_to(65535, value)? as u16,
         Valued::Paper => o.paper = number_up_to(1_000_000, value)? as u32,
         Valued::Examine => o.examine = Some(addresses(value)?),

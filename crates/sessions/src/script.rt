@@ -1,7 +1,7 @@
 //! Scripts: a record on each line, a wait and a character.
 use crate::trouble::Trouble;
+use fields::Lines;
 use fields::number::{decimal, hexadecimal};
-use fields::text::first_line;
 use line::Cue;
 
 /// The character that some bytes tell: itself, `\\`, `\n`, or `\x` and two hexadecimal digits.
@@ -51,9 +51,7 @@ pub(crate) fn read_script(
 ) -> Result<Vec<Cue>, Trouble> {
     let mut cues = Vec::new(rt.alloc());
     let mut number = 0u32;
-    let mut rest = text;
-    while let Some((line, behind)) = first_line(rest) {
-        rest = behind;
+    for line in Lines::new(text) {
         number = number.saturating_add(1);
         match record(line) {
             Some(cue) => cues.push(cue)?,

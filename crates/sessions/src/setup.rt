@@ -60,7 +60,7 @@ fn load_sheet(rt: &HostRuntime, words: &[String], place: usize) -> Result<(Vec<u
             println!(rt; "laid {count} words from {lowest:03X} to {highest:03X}")?;
             Ok((memory.into_bytes(), lowest))
         }
-        Err(LayingFault::Sheet(fault)) => Err(Trouble::Refused(place, fault.report())),
+        Err(LayingFault::Sheet(fault)) => Err(Trouble::Refused(place, fault)),
         Err(LayingFault::MemorySize) => unreachable(),
     }
 }

@@ -1,7 +1,7 @@
 //! What keeps a session from being tried, told in one line.
 use crate::word_at;
-use fields::Report;
 use options::OptionFault;
+use sheets::SheetFault;
 use std::alloc::{AllocError, AllocFailed};
 use std::io;
 
@@ -17,7 +17,7 @@ pub enum Trouble {
     /// A line of a script that is no record.
     NoRecord(usize, u32),
     /// A sheet that is refused.
-    Refused(usize, Report),
+    Refused(usize, SheetFault),
     Unwritable(usize),
     NoMemory,
     /// Nothing can be printed.
@@ -39,22 +39,6 @@ impl<T: Drop> From<AllocFailed<T>> for Trouble {
 impl From<io::Error> for Trouble {
     fn from(_: io::Error) -> Trouble {
         Trouble::Silent
-    }
-}
-
-/// What the number of a refused sheet means.
-fn meaning(number: u8) -> &'static str {
-    match number {
-        5 => "the text has more than 65,535 bytes",
-        6 => "a byte that may not stand in a sheet: only 32 to 126 may",
-        7 => "a statement of no form",
-        8 => "a number out of its range",
-        9 => "a label that stands before an earlier statement too",
-        10 => "more than 512 labels",
-        11 => "a word past address FFF",
-        12 => "a label that stands before no statement",
-        13 => "the sheet has no END",
-        _ => "the memory has not 4096 words",
     }
 }
 
@@ -82,6 +66,18 @@ fn tell_words(rt: &HostRuntime, words: &[String], fault: OptionFault) -> io::Res
     }
 }
 
+/// Why a sheet is refused.
+fn tell_refused(rt: &HostRuntime, name: &str, fault: SheetFault) -> io::Result<()> {
+    let report = fault.report();
+    match fault {
+        // the book has room for 512
+        SheetFault::BookFull { .. } => println!(rt;
+            "sessions: {name} is refused with {report}: more than 512 labels"
+        ),
+        _ => println!(rt; "sessions: {name} is refused with {report}: {fault}"),
+    }
+}
+
 /// What is wrong with a file.
 fn tell_file(rt: &HostRuntime, name: &str, trouble: &Trouble) -> io::Result<()> {
     match trouble {
@@ -97,17 +93,7 @@ fn tell_file(rt: &HostRuntime, name: &str, trouble: &Trouble) -> io::Result<()> 
         Trouble::NoRecord(_, line) => println!(rt;
             "sessions: line {line} of {name} is no record: a wait up to 65535, a space and a character"
         ),
-        Trouble::Refused(_, report) => {
-            let Report {
-                number,
-                line,
-                layer,
-            } = *report;
-            let meaning = meaning(number);
-            println!(rt;
-                "sessions: {name} is refused with {number} on line {line}, layer {layer}: {meaning}"
-            )
-        }
+        Trouble::Refused(_, fault) => tell_refused(rt, name, *fault),
         _ => Ok(()),
     }
 }

@@ -2,8 +2,7 @@
 //! sheet below it.
 #![tactic(auto)]
 
-use fields::Report;
-use fields::text::first_line;
+use fields::Lines;
 use memory::{Memory, WordMemory};
 use sheets::LayingFault;
 use sheets::assembly::assemble;
@@ -32,12 +31,8 @@ fn tell(rt: &HostRuntime, sheet: &[u8]) -> io::Result<()> {
     match assemble(rt.alloc(), 512, sheet, &mut memory)? {
         Ok(laid) => tell_words(rt, &memory, laid),
         Err(LayingFault::Sheet(fault)) => {
-            let Report {
-                number,
-                line,
-                layer,
-            } = fault.report();
-            println!(rt; "  refused: {number} on line {line}, layer {layer}")
+            let report = fault.report();
+            println!(rt; "  refused: {report}")
         }
         Err(LayingFault::MemorySize) => println!(rt; "  refused: 1"),
     }
@@ -47,9 +42,7 @@ fn tell(rt: &HostRuntime, sheet: &[u8]) -> io::Result<()> {
 fn tell_all(rt: &HostRuntime, text: &[u8]) -> io::Result<()> {
     let mut sheet = Vec::new(rt.alloc());
     let mut titled = false;
-    let mut rest = text;
-    while let Some((line, behind)) = first_line(rest) {
-        rest = behind;
+    for line in Lines::new(text) {
         if let [b'=', ..] = line {
             if titled {
                 tell(rt, sheet.as_slice())?;

@@ -1,7 +1,6 @@
 -- What a granted taking and a granted laying come to.
 use Rattle.std.proofs.Common.{◌≡◌, ℕ, suc, ◌+◌, ◌≤◌, min, max, Bool, true, false, cond, eqb, List, [], ◌∷◌, ◌++◌, length, is_some, Some, None, Ok, Err, Option, Result, sym, refl, ap, ◌∙◌, subst, append_assoc, append-nil, add-one, arith, length-append, eq-eqb, ne_eqb, eqb-true, leb-false}
 use borrow.Author.Tests.{eqb-false}
-use Rattle.fields.proofs.Outcomes.{clash}
 use Rattle.fields.specs.Outcomes.{lifted}
 use Rattle.memory.specs.Contents.{Contents, size}
 use Rattle.statements.specs.declared.statement.Name.{Name}
@@ -37,12 +36,12 @@ same-sym a b h = rw (flip a.first b.first _ refl, flip a.second b.second _ refl,
 
 -- a name that is not found
 none-else : (b : Bool) (a : ℕ) (o : Option ℕ) → cond b (Some a) o ≡ None → (b ≡ false) × (o ≡ None)
-none-else true a o h = absurd (let z : ◌≡◌ {A = ℕ} 0 1 = cc in omega arith)
+none-else true a o h = cc
 none-else false a o h = (refl, h)
 
 not_found : (o : Option ℕ) → is_some o ≡ false → o ≡ None
 not_found None h = refl
-not_found (Some a) h = absurd (let z : ◌≡◌ {A = ℕ} 0 1 = cc in omega arith)
+not_found (Some a) h = cc
 
 lookup-more : (held : List Label) (l : Label) (name : Name) → lookup held name ≡ None → same_name l.name name ≡ false → lookup (held ++ l ∷ []) name ≡ None
 lookup-more [] l name n s = rw s
@@ -134,7 +133,7 @@ lays-after book m after text e cs h = subst (λ (x : Contents). Lays m cs x) (sy
 -- and of both passes
 named-then : (answer : Result ℕ SheetFault) (laid : Result (List Cell) LayingFault) (cs : List Cell) → lifted fault.Sheet answer (λ n. laid) ≡ Ok cs → laid ≡ Ok cs
 named-then (Ok n) laid cs h = h
-named-then (Err e) laid cs h = absurd (clash (fault.Sheet e) cs h)
+named-then (Err e) laid cs h = cc
 
 pub assembles-after : (room : ℕ) (m after : Contents) (text : List ℕ) → after ≡ memory_after (assembling room m text) m
     → (cs : List Cell) → assembling room m text ≡ Ok cs → Lays m cs after
@@ -145,11 +144,11 @@ assembles-after room m after text e cs h =
 -- a memory of 4096 words is never refused for its size
 unsized : (book : List Label) (m : Contents) (r : Result (List Cell) SheetFault) → size m ≡ 4096
     → answered (cond (eqb (size m) 4096) (lifted fault.Sheet r (λ cs. Ok cs)) (Err fault.MemorySize)) ≡ Err fault.MemorySize → ⊥
-unsized book m (Ok cs) e = rw (eq-eqb (size m) 4096 e) (λ h. let z : ◌≡◌ {A = ℕ} 0 1 = cc in omega arith)
-unsized book m (Err f) e = rw (eq-eqb (size m) 4096 e) (λ h. let z : ◌≡◌ {A = ℕ} 0 1 = cc in omega arith)
+unsized book m (Ok cs) e = rw (eq-eqb (size m) 4096 e) (λ h. cc)
+unsized book m (Err f) e = rw (eq-eqb (size m) 4096 e) (λ h. cc)
 
 pub well-sized : (room : ℕ) (m : Contents) (text : List ℕ) → size m ≡ 4096 → answered (assembling room m text) ≡ Err fault.MemorySize → ⊥
 well-sized room m text e = elim (named room text).answer as (λ a. answered (lifted fault.Sheet a (λ n. laying (named room text).labels m text)) ≡ Err fault.MemorySize → ⊥) [
   | Ok n ↦ unsized (named room text).labels m (cells_of (named room text).labels (sheet_of text)) e
-  | Err f ↦ (λ h. let z : ◌≡◌ {A = ℕ} 0 1 = cc in omega arith)
+  | Err f ↦ (λ h. cc)
 ]

@@ -1,7 +1,7 @@
 -- Words stored one after the other.
 use Rattle.std.proofs.Common.{◌≡◌, ℕ, ◌<◌, ◌≤◌, eqb, leb, List, [], ◌∷◌, ◌++◌, Ok, Err, Result, refl, ap, ◌∙◌, subst, arith, eqb-true, leb-true}
 use Rattle.fields.specs.Outcomes.{and_then, lifted}
-use Rattle.fields.proofs.Outcomes.{clash, ok-both, ok_same, ok-when}
+use Rattle.fields.proofs.Outcomes.{ok-both, ok_same, ok-when}
 use Rattle.memory.specs.Contents.{Contents, size, fetched, stored}
 use Rattle.memory.proofs.Contents.{size-stored, fetched-here, fetched-elsewhere}
 use Rattle.sheets.specs.declared.fault.LayingFault.TheVariants as fault
@@ -46,7 +46,7 @@ cell-inside book p c h =
 
 pub inside : (book : List Label) (sheet : Sheet) (cs : List Cell) → cells_of book sheet ≡ Ok cs → Inside cs
 inside book end cs h = subst Inside (ok_same [] cs h) tt
-inside book (refused e) cs h = absurd (clash e cs h)
+inside book (refused e) cs h = cc
 inside book (placed p rest) cs h =
     let b = ok-both (cell_of book p) (λ c. and_then (cells_of book rest) (λ others. Ok (c ∷ others))) cs h in
     let r = ok-both (cells_of book rest) (λ others. Ok (b.0 ∷ others)) cs b.2 in
@@ -54,7 +54,7 @@ inside book (placed p rest) cs h =
 
 unlifted : (r : Result (List Cell) SheetFault) (cs : List Cell) → lifted fault.Sheet r (λ l. Ok l) ≡ Ok cs → r ≡ Ok cs
 unlifted (Ok l) cs h = ap {B = Result (List Cell) SheetFault} (λ x. Ok x) (ok_same l cs h)
-unlifted (Err e) cs h = absurd (clash (fault.Sheet e) cs h)
+unlifted (Err e) cs h = cc
 
 -- a granted laying is one of a sheet, into a memory of 4096 words
 pub granted : (book : List Label) (m : Contents) (text : List ℕ) (cs : List Cell) → laying book m text ≡ Ok cs → (size m ≡ 4096) × (cells_of book (sheet_of text) ≡ Ok cs)

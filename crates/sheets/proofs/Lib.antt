@@ -1,5 +1,4 @@
 pub mod Labels
-pub mod Sheets
 pub mod Taking
 pub mod Laying
 pub mod Laws

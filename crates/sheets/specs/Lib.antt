@@ -2,6 +2,7 @@ pub mod Faults
 pub mod Labels
 pub mod Sheets
 pub mod Walks
+pub mod Readers
 pub mod Taking
 pub mod Books
 pub mod Laying

@@ -18,8 +18,8 @@ fn assemble_over<M: Memory>(
     text: &[u8],
     memory: &mut M,
 ) -> Result<(usize, u16, u16), LayingFault>
-    ensures answer { result ≡ answered (assembling (length records.old) (M.Memory.contents memory.old) text.now) }
-    ensures memory { M.Memory.contents memory.new ≡ memory_after (assembling (length records.old) (M.Memory.contents memory.old) text.now) (M.Memory.contents memory.old) }
+    ensures answer { result ≡ answered (assembling (length records.old) (M.contents memory.old) text.now) }
+    ensures memory { M.contents memory.new ≡ memory_after (assembling (length records.old) (M.contents memory.old) text.now) (M.contents memory.old) }
 {
     let mut book = OpenBook::new(records);
     book.take_names(text)?;
@@ -34,9 +34,9 @@ pub fn assemble<M: Memory>(
     text: &[u8],
     memory: &mut M,
 ) -> Result<Result<(usize, u16, u16), LayingFault>, AllocError>
-    ensures answer { IfOk result (λ laid. laid ≡ answered (assembling room (M.Memory.contents memory.old) text.now)) }
-    ensures memory { MatchResult result (λ _. M.Memory.contents memory.new ≡ memory_after (assembling room (M.Memory.contents memory.old) text.now) (M.Memory.contents memory.old)) (λ _. M.Memory.contents memory.new ≡ M.Memory.contents memory.old) }
-    ensures law { OnOk result ((cs : List Cell) → assembling room (M.Memory.contents memory.old) text.now ≡ Ok cs → Lays (M.Memory.contents memory.old) cs (M.Memory.contents memory.new)) }
+    ensures answer { IfOk result (λ laid. laid ≡ answered (assembling room (M.contents memory.old) text.now)) }
+    ensures memory { MatchResult result (λ _. M.contents memory.new ≡ memory_after (assembling room (M.contents memory.old) text.now) (M.contents memory.old)) (λ _. M.contents memory.new ≡ M.contents memory.old) }
+    ensures law { OnOk result ((cs : List Cell) → assembling room (M.contents memory.old) text.now ≡ Ok cs → Lays (M.contents memory.old) cs (M.contents memory.new)) }
 {
     let blank = Label {
         name: Name {

@@ -6,6 +6,8 @@ ghost use Rattle.sheets.specs.Faults.{number_of, reported};
 
 use fields::Report;
 use statements::StatementFault;
+use std::error::Error;
+use std::fmt;
 
 /// A text that is no sheet, or that the book does not serve.
 #[derive(Clone, Copy, Debug)]
@@ -84,3 +86,44 @@ impl From<SheetFault> for LayingFault {
         LayingFault::Sheet(e)
     }
 }
+
+impl fmt::Display for SheetFault {
+    ghost use Rattle.std.specs.Prelude.{Some};
+    ghost use Rattle.sheets.specs.Faults.{meaning};
+
+    ghost output = { λ f. Some (meaning f) };
+
+    fn fmt<W: fmt::Write>(&self, f: &mut fmt::Formatter<W>) -> fmt::Result {
+        match self {
+            SheetFault::Statement(fault) => write!(f, "{fault}"),
+            SheetFault::TextTooLong => f.write_str("the text has more than 65,535 bytes"),
+            SheetFault::LabelTaken { .. } => {
+                f.write_str("a label that stands before an earlier statement too")
+            }
+            SheetFault::BookFull { .. } => f.write_str("a label for which the book has no room"),
+            SheetFault::PastMemory { .. } => f.write_str("a word past address FFF"),
+            SheetFault::LabelUnknown { .. } => f.write_str(
+                "a label that stands before no statement",
+            ),
+            SheetFault::NoEnd { .. } => f.write_str("the sheet has no END"),
+        }
+    }
+}
+
+impl fmt::Display for LayingFault {
+    ghost use Rattle.std.specs.Prelude.{Some};
+    ghost use Rattle.sheets.specs.Faults.{laying_meaning};
+
+    ghost output = { λ f. Some (laying_meaning f) };
+
+    fn fmt<W: fmt::Write>(&self, f: &mut fmt::Formatter<W>) -> fmt::Result {
+        match self {
+            LayingFault::MemorySize => f.write_str("the memory has not 4096 words"),
+            LayingFault::Sheet(fault) => write!(f, "{fault}"),
+        }
+    }
+}
+
+impl Error for SheetFault {}
+
+impl Error for LayingFault {}

@@ -5,8 +5,7 @@ ghost use Rattle.sheets.specs.Sheets.{sheet_of};
 
 use crate::fault::{LayingFault, SheetFault};
 use crate::label::Label;
-use crate::placed::Step;
-use crate::walk::Walk;
+use crate::reader::SheetReader;
 use crate::word::cell_of;
 use memory::Memory;
 
@@ -14,19 +13,10 @@ use memory::Memory;
 fn check_sheet(book: &[Label], text: &[u8]) -> Result<(), SheetFault>
     ensures { result ≡ checked (cells_of book.now (sheet_of text.now)) }
 {
-    if text.len() > 65535 {
-        return Err(SheetFault::TextTooLong);
+    for placed in SheetReader::new(text)? {
+        cell_of(book, placed?)?;
     }
-    let mut walk = Walk::new(text);
-    loop {
-        match walk.step()? {
-            Step::Nothing => {}
-            Step::End => return Ok(()),
-            Step::Lays(placed) => {
-                cell_of(book, placed)?;
-            }
-        }
-    }
+    Ok(())
 }
 
 /// One word more, at this address.
@@ -49,24 +39,15 @@ fn store_sheet<M: Memory>(
 ) -> Result<(usize, u16, u16), SheetFault>
     requires { checked (cells_of book.now (sheet_of text.now)) ≡ Ok tt }
     ensures answer { result ≡ Ok (summary (cells (cells_of book.now (sheet_of text.now)))) }
-    ensures memory { M.Memory.contents memory.new ≡ stored_all (M.Memory.contents memory.old) (cells (cells_of book.now (sheet_of text.now))) }
+    ensures memory { M.contents memory.new ≡ stored_all (M.contents memory.old) (cells (cells_of book.now (sheet_of text.now))) }
 {
-    if text.len() > 65535 {
-        return Err(SheetFault::TextTooLong);
-    }
-    let mut walk = Walk::new(text);
     let mut laid = (0, 0, 0);
-    loop {
-        match walk.step()? {
-            Step::Nothing => {}
-            Step::End => return Ok(laid),
-            Step::Lays(placed) => {
-                let cell = cell_of(book, placed)?;
-                memory.store(cell.address, cell.word);
-                laid = count_word(laid, cell.address);
-            }
-        }
+    for placed in SheetReader::new(text)? {
+        let cell = cell_of(book, placed?)?;
+        memory.store(cell.address, cell.word);
+        laid = count_word(laid, cell.address);
     }
+    Ok(laid)
 }
 
 /// Checks a whole text, and then lays it.
@@ -75,8 +56,8 @@ pub(crate) fn lay_sheet<M: Memory>(
     text: &[u8],
     memory: &mut M,
 ) -> Result<(usize, u16, u16), LayingFault>
-    ensures answer { result ≡ answered (laying book.now (M.Memory.contents memory.old) text.now) }
-    ensures memory { M.Memory.contents memory.new ≡ memory_after (laying book.now (M.Memory.contents memory.old) text.now) (M.Memory.contents memory.old) }
+    ensures answer { result ≡ answered (laying book.now (M.contents memory.old) text.now) }
+    ensures memory { M.contents memory.new ≡ memory_after (laying book.now (M.contents memory.old) text.now) (M.contents memory.old) }
 {
     if memory.size() != 4096 {
         return Err(LayingFault::MemorySize);

@@ -7,6 +7,7 @@ pub mod fault;
 pub mod label;
 mod lay;
 pub mod placed;
+mod reader;
 mod walk;
 mod word;
 

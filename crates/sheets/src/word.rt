@@ -21,10 +21,7 @@ fn operand_address(book: &[Label], line: u16, operand: Operand) -> Result<u16, S
 {
     match operand {
         Operand::Address(address) => Ok(address),
-        Operand::Label(name) => match find(book, name) {
-            Some(address) => Ok(address),
-            None => Err(SheetFault::LabelUnknown { line }),
-        },
+        Operand::Label(name) => find(book, name).ok_or(SheetFault::LabelUnknown { line }),
     }
 }
 

@@ -17,9 +17,9 @@ impl ClosedBook<'_> {
         text: &[u8],
         memory: &mut M,
     ) -> Result<(usize, u16, u16), LayingFault>
-        ensures answer { result ≡ answered (laying (closed_labels self.entry) (M.Memory.contents memory.old) text.now) }
-        ensures memory { M.Memory.contents memory.new ≡ memory_after (laying (closed_labels self.entry) (M.Memory.contents memory.old) text.now) (M.Memory.contents memory.old) }
-        ensures law { (cs : List Cell) → laying (closed_labels self.entry) (M.Memory.contents memory.old) text.now ≡ Ok cs → Lays (M.Memory.contents memory.old) cs (M.Memory.contents memory.new) }
+        ensures answer { result ≡ answered (laying (closed_labels self.entry) (M.contents memory.old) text.now) }
+        ensures memory { M.contents memory.new ≡ memory_after (laying (closed_labels self.entry) (M.contents memory.old) text.now) (M.contents memory.old) }
+        ensures law { (cs : List Cell) → laying (closed_labels self.entry) (M.contents memory.old) text.now ≡ Ok cs → Lays (M.contents memory.old) cs (M.contents memory.new) }
     {
         let ClosedBook { labels } = self;
         lay_sheet(labels, text, memory)

@@ -7,8 +7,8 @@ ghost use Rattle.sheets.specs.Taking.{entering, entered, records_after, kept};
 use crate::book::OpenBook;
 use crate::fault::SheetFault;
 use crate::label::{Label, find};
-use crate::placed::{Placed, Step};
-use crate::walk::Walk;
+use crate::placed::Placed;
+use crate::reader::SheetReader;
 use statements::Name;
 
 impl OpenBook<'_> {
@@ -22,7 +22,8 @@ impl OpenBook<'_> {
 
     /// Enters the label of a statement, if it has one, behind the first `n` records.
     fn enter(&mut self, n: usize, placed: Placed) -> Result<usize, SheetFault>
-        requires { (self.old.count ≤ n) × (n ≤ length (records_of self.old)) }
+        requires behind { self.old.count ≤ n }
+        requires within { n ≤ length (records_of self.old) }
         ensures answer { result ≡ entered (entering (length (records_of self.old)) (take n (records_of self.old)) placed) }
         ensures records { records_of self.new ≡ records_after (entering (length (records_of self.old)) (take n (records_of self.old)) placed) (records_of self.old) }
         ensures sized { length (records_of self.new) ≡ length (records_of self.old) }
@@ -61,17 +62,9 @@ impl OpenBook<'_> {
         ensures labels { open_labels self.new ≡ kept result (taking_into self.old text.now).labels (open_labels self.old) }
         ensures lent { self.new.records.ghost_name ≡ self.old.records.ghost_name }
     {
-        if text.len() > 65535 {
-            return Err(SheetFault::TextTooLong);
-        }
-        let mut walk = Walk::new(text);
         let mut n = self.count;
-        loop {
-            match walk.step()? {
-                Step::Nothing => {}
-                Step::End => break,
-                Step::Lays(placed) => n = self.enter(n, placed)?,
-            }
+        for placed in SheetReader::new(text)? {
+            n = self.enter(n, placed?)?;
         }
         self.count = n;
         Ok(n)

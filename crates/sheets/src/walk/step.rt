@@ -1,39 +1,29 @@
 //! Reading a sheet line by line.
-ghost use Rattle.std.specs.Prelude.{◌≡◌, ◌+◌, ◌<◌, ◌≤◌, length, OnOk};
-ghost use Rattle.fields.specs.Lines.{lines_of};
-ghost use Rattle.sheets.specs.Sheets.{read_from};
+ghost use Rattle.std.specs.Prelude.{◌≡◌, ◌+◌, ◌<◌, length, IfOk, OnOk, MatchResult};
+ghost use Rattle.sheets.specs.Sheets.{refused, sheet_of};
 ghost use Rattle.sheets.specs.Walks.{ahead, Leads};
 
 use crate::fault::SheetFault;
 use crate::placed::{Placed, Step};
 use crate::walk::Walk;
 use fields::text::first_line;
-use statements::{Code, Name, Statement, read_line};
-
-/// A statement that lays a word, at its line and address.
-fn place(line: u16, address: u32, label: Option<Name>, code: Code) -> Step
-    ensures { result ≡ Step.Lays (record { line = line; address = address; label = label; code = code }) }
-{
-    Step::Lays(Placed {
-        line,
-        address,
-        label,
-        code,
-    })
-}
+use statements::{Statement, read_line};
 
 impl<'a> Walk<'a> {
     /// A sheet of which nothing is read yet.
-    pub(crate) fn new(text: &'a [u8]) -> Walk<'a>
-        requires { length text.now ≤ 65535 }
-        ensures ahead { ahead result ≡ read_from 0 0 (lines_of text.now) }
-        ensures lines { result.lines ≡ 0 }
+    pub(crate) fn new(text: &'a [u8]) -> Result<Walk<'a>, SheetFault>
+        ensures ahead { MatchResult result (λ walk. sheet_of text.now ≡ ahead walk) (λ e. sheet_of text.now ≡ refused e) }
+        ensures lines { IfOk result (λ walk. walk.lines ≡ 0) }
+        ensures bytes { IfOk result (λ walk. walk.rest.now ≡ text.now) }
     {
-        Walk {
+        if text.len() > 65535 {
+            return Err(SheetFault::TextTooLong);
+        }
+        Ok(Walk {
             rest: text,
             lines: 0,
             address: 0,
-        }
+        })
     }
 
     /// One line more.
@@ -52,7 +42,15 @@ impl<'a> Walk<'a> {
             Statement::Blank => (at, Step::Nothing),
             Statement::Origin(origin) => (u32::from(origin), Step::Nothing),
             Statement::End => (at, Step::End),
-            Statement::Lays { label, code } => (at + 1, place(lines, at, label, code)),
+            Statement::Lays { label, code } => {
+                let placed = Placed {
+                    line: lines,
+                    address: at,
+                    label,
+                    code,
+                };
+                (at + 1, Step::Lays(placed))
+            }
         };
         *self = Walk {
             rest,

@@ -1,9 +1,5 @@
 use Rattle.sheets.proofs.Laws.{lays-after}
 use Rattle.sheets.proofs.book.ClosedBook.lay.Goals as goal
 
-pub returns : goal.returns
-returns g c = record {
-  answer = c.lay_sheet.ensures.answer;
-  memory = c.lay_sheet.ensures.memory;
-  law = lays-after _ _ _ c.args.text.now c.lay_sheet.ensures.memory;
-}
+pub returns-clause-law : goal.returns-clause-law
+returns-clause-law g c = lays-after _ _ _ c.args.text.now c.lay_sheet.ensures.memory
