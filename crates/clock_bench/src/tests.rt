@@ -7,21 +7,16 @@ use std::alloc::Global;
 use std::process::Abort;
 use std::test::Fail;
 
-// The number of a refusal, or 0.
-fn refusal(res: Result<u16, Refusal>) -> u8 {
-    match res {
-        Ok(_) => 0,
-        Err(refusal) => refusal.number(),
-    }
+// What a call answers, or the number of its refusal.
+fn told(returned: Result<u16, Refusal>) -> Result<u16, u8> {
+    returned.map_err(|refusal| refusal.number())
 }
 
 // A memory of 4096 words that begins with these.
 fn laid(words: &[u16], heap: Global) -> Result<WordMemory, Fail> {
     let mut memory = WordMemory::new(vec![in heap; 0; 4096]?);
-    let mut address = 0;
-    for word in words {
+    for (address, word) in (0..4096u16).zip(words.iter()) {
         memory.store(address, *word);
-        address = address.wrapping_add(1);
     }
     Ok(memory)
 }
@@ -46,8 +41,8 @@ fn clocks(
 fn lda_takes_six_clocks(rt: HostRuntime) -> Result<(), Fail> {
     let mut memory = laid(&[0x2010], rt.alloc())?;
     let mut computer = ClockComputer::new();
-    assert_eq!(rt; refusal(computer.deposit(&mut memory, 0x010, 0xBEEF)), 0);
-    assert_eq!(rt; refusal(computer.start()), 0);
+    assert_eq!(rt; told(computer.deposit(&mut memory, 0x010, 0xBEEF)), Ok(0));
+    assert_eq!(rt; told(computer.start()), Ok(0));
     clocks(&rt, &mut computer, &mut memory, &[0, 0, 0, 0, 0, 6]);
     assert_eq!(rt; computer.registers().ac, 0xBEEF);
     assert_eq!(rt; computer.registers().pc, 1);
@@ -58,7 +53,7 @@ fn lda_takes_six_clocks(rt: HostRuntime) -> Result<(), Fail> {
 fn isz_skips_on_the_new_word(rt: HostRuntime) -> Result<(), Fail> {
     let mut memory = laid(&[0x6001, 0xFFFF], rt.alloc())?;
     let mut computer = ClockComputer::new();
-    assert_eq!(rt; refusal(computer.start()), 0);
+    assert_eq!(rt; told(computer.start()), Ok(0));
     clocks(&rt, &mut computer, &mut memory, &[0, 0, 0, 0, 0, 0, 7]);
     assert_eq!(rt; memory.fetch(1), 0);
     assert_eq!(rt; computer.registers().pc, 2);
@@ -69,7 +64,7 @@ fn isz_skips_on_the_new_word(rt: HostRuntime) -> Result<(), Fail> {
 fn ion_lets_an_interrupt_in(rt: HostRuntime) -> Result<(), Fail> {
     let mut memory = laid(&[0xF080, 0x7020], rt.alloc())?;
     let mut computer = ClockComputer::new();
-    assert_eq!(rt; refusal(computer.start()), 0);
+    assert_eq!(rt; told(computer.start()), Ok(0));
     clocks(&rt, &mut computer, &mut memory, &[0, 0, 0, 4, 0, 0, 0, 4]);
     assert!(rt; computer.registers().r);
     clocks(&rt, &mut computer, &mut memory, &[0, 0, 3]);
@@ -83,7 +78,7 @@ fn ion_lets_an_interrupt_in(rt: HostRuntime) -> Result<(), Fail> {
 fn examine_answers_inside_a_cycle(rt: HostRuntime) -> Result<(), Fail> {
     let mut memory = laid(&[0x1002, 0, 0x1234], rt.alloc())?;
     let mut computer = ClockComputer::new();
-    assert_eq!(rt; refusal(computer.start()), 0);
+    assert_eq!(rt; told(computer.start()), Ok(0));
     clocks(&rt, &mut computer, &mut memory, &[0, 0, 0, 0, 0]);
     let before = computer.registers();
     match computer.examine(&memory, 0x000) {
@@ -100,12 +95,12 @@ fn calls_are_refused_by_number(rt: HostRuntime) -> Result<(), Fail> {
     let mut small = WordMemory::new(vec![in rt.alloc(); 0; 8]?);
     let mut memory = laid(&[], rt.alloc())?;
     let mut computer = ClockComputer::new();
-    assert_eq!(rt; refusal(computer.clock(&mut small, &mut QuietLine)), 1);
-    assert_eq!(rt; refusal(computer.clock(&mut memory, &mut QuietLine)), 3);
-    assert_eq!(rt; refusal(computer.aim(0x1000)), 2);
-    assert_eq!(rt; refusal(computer.examine(&memory, 0x1000)), 2);
-    assert_eq!(rt; refusal(computer.start()), 0);
-    assert_eq!(rt; refusal(computer.start()), 4);
-    assert_eq!(rt; refusal(computer.deposit(&mut memory, 0, 0)), 4);
+    assert_eq!(rt; told(computer.clock(&mut small, &mut QuietLine)), Err(1));
+    assert_eq!(rt; told(computer.clock(&mut memory, &mut QuietLine)), Err(3));
+    assert_eq!(rt; told(computer.aim(0x1000)), Err(2));
+    assert_eq!(rt; told(computer.examine(&memory, 0x1000)), Err(2));
+    assert_eq!(rt; told(computer.start()), Ok(0));
+    assert_eq!(rt; told(computer.start()), Err(4));
+    assert_eq!(rt; told(computer.deposit(&mut memory, 0, 0)), Err(4));
     Ok(())
 }

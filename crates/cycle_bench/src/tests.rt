@@ -15,12 +15,9 @@ fn loaded(first: u16, second: u16, third: u16, heap: Global) -> Result<WordMemor
     Ok(memory)
 }
 
-/// The number of a refusal, or 0.
-fn number<T: Drop>(outcome: Result<T, Refusal>) -> u8 {
-    match outcome {
-        Ok(_) => 0,
-        Err(refusal) => refusal.number(),
-    }
+/// What a call answers, or the number of its refusal.
+fn told<T: Drop>(returned: Result<T, Refusal>) -> Result<T, u8> {
+    returned.map_err(|refusal| refusal.number())
 }
 
 #[test]
@@ -42,7 +39,7 @@ fn a_run_ends_at_hlt(rt: HostRuntime) -> Result<(), Fail> {
     // CLA, INC, HLT
     let mut memory = loaded(0x7800, 0x7020, 0x7001, rt.alloc())?;
     let mut computer = CycleComputer::new();
-    assert_eq!(rt; number(computer.run(&mut memory, &mut QuietLine, 3)), 3);
+    assert_eq!(rt; told(computer.run(&mut memory, &mut QuietLine, 3)), Err(3));
     assert_eq!(rt; computer.start(), Ok(0));
     assert_eq!(rt; computer.run(&mut memory, &mut QuietLine, 9), Ok((3, 12)));
     assert_eq!(rt; computer.visible().ac, 1);
@@ -87,10 +84,10 @@ fn inp_takes_the_character(rt: HostRuntime) -> Result<(), Fail> {
 fn refusals_go_by_the_first_cause(rt: HostRuntime) -> Result<(), Fail> {
     let mut small = WordMemory::new([0, 0].to_vec(rt.alloc())?);
     let mut computer = CycleComputer::new();
-    assert_eq!(rt; number(computer.aim(0x1000)), 2);
-    assert_eq!(rt; number(computer.cycle(&mut small, &mut QuietLine)), 1);
-    assert_eq!(rt; number(computer.deposit(&mut small, 0x1000, 1)), 1);
+    assert_eq!(rt; told(computer.aim(0x1000)), Err(2));
+    assert_eq!(rt; told(computer.cycle(&mut small, &mut QuietLine)), Err(1));
+    assert_eq!(rt; told(computer.deposit(&mut small, 0x1000, 1)), Err(1));
     assert_eq!(rt; computer.start(), Ok(0));
-    assert_eq!(rt; number(computer.aim(0)), 4);
+    assert_eq!(rt; told(computer.aim(0)), Err(4));
     Ok(())
 }

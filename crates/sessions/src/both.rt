@@ -9,7 +9,7 @@ use cycle_bench::CycleComputer;
 use machine::Call;
 
 /// The calls of a session: aim, start, and so many clocks.
-fn session_calls(rt: &HostRuntime, from: u16, clocks: u64) -> Result<Vec<Call>, Trouble> {
+fn session_calls(rt: &HostRuntime, from: u16, clocks: u64) -> Result<Vec<Call>, Trouble<'static>> {
     let first = [Call::Aim(from), Call::Start].into_iter();
     let calls = first.chain((0..clocks).map(|_| Call::Clock));
     Ok(calls.collect(rt.alloc())?)
@@ -37,7 +37,7 @@ fn tell_agreement(
     rt: &HostRuntime,
     pair: &Cosimulation,
     same_memory_and_paper: bool,
-) -> Result<(), Trouble> {
+) -> Result<(), Trouble<'static>> {
     if pair.inside {
         rt.println("the clock bench is inside a cycle, so the benches are not compared")?;
     } else if same_memory_and_paper && pair.computer.visible() == pair.twin.visible() {
@@ -49,14 +49,22 @@ fn tell_agreement(
 }
 
 /// How many clocks a session takes, which the instruction bench alone can tell, and why it ends.
-fn clocks_of(rt: &HostRuntime, setup: &Setup, limit: Limit) -> Result<(u64, Stop), Trouble> {
+fn clocks_of(
+    rt: &HostRuntime,
+    setup: &Setup,
+    limit: Limit,
+) -> Result<(u64, Stop), Trouble<'static>> {
     let mut run: Run<CycleComputer> = Run::start(rt, setup)?;
     let stop = run.run(rt, limit)?;
     Ok((run.counts.clocks.min(limit.clocks), stop))
 }
 
 /// Makes the calls on the clock bench and their short list on the instruction bench, and tells whether they agree.
-pub(crate) fn run_both(rt: &HostRuntime, setup: &Setup, limit: Limit) -> Result<Ending, Trouble> {
+pub(crate) fn run_both(
+    rt: &HostRuntime,
+    setup: &Setup,
+    limit: Limit,
+) -> Result<Ending, Trouble<'static>> {
     let (clocks, stop) = clocks_of(rt, setup, limit)?;
     let calls = session_calls(rt, setup.from, clocks)?;
     let mut memory = setup.memory()?;

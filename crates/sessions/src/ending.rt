@@ -25,7 +25,7 @@ impl Ending {
         rt: &HostRuntime,
         first: u16,
         last: u16,
-    ) -> Result<(), Trouble> {
+    ) -> Result<(), Trouble<'static>> {
         for address in first..=last {
             let text = word_row(rt.alloc(), address, self.memory.fetch(address))?;
             say_line(rt, text.as_slice())?;
@@ -34,7 +34,7 @@ impl Ending {
     }
 
     /// Tells the registers, what was printed, how much was made and why it ended.
-    pub(crate) fn tell(&self, rt: &HostRuntime) -> Result<(), Trouble> {
+    pub(crate) fn tell(&self, rt: &HostRuntime) -> Result<(), Trouble<'static>> {
         say(rt, visible_lines(rt.alloc(), self.visible)?.as_slice())?;
         if let Some(registers) = self.registers {
             say(rt, hidden_lines(rt.alloc(), registers)?.as_slice())?;

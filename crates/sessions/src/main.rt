@@ -1,6 +1,7 @@
 //! Tries a sheet on a bench: by whole instructions, clock by clock, or on both benches at once.
 #![tactic(auto)]
 
+mod asked;
 mod bench;
 mod both;
 mod counts;
@@ -14,38 +15,37 @@ mod setup;
 mod trouble;
 mod usage;
 
-use options::read_options;
+use asked::{Asked, word_at};
+use options::{OptionFault, read_options};
 use session::try_session;
 use std::{env, io};
 use trouble::Trouble;
 use usage::USAGE;
 
-/// A word of the command line.
-fn word_at(words: &[String], place: usize) -> &str {
-    match words.get(place) {
-        Some(word) => word.as_str(),
-        None => "",
-    }
+/// The word that is not understood.
+fn word_of(words: &[String], fault: OptionFault) -> &str {
+    let (OptionFault::Unknown(place)
+    | OptionFault::NoValue(place)
+    | OptionFault::BadValue(place)
+    | OptionFault::SecondSheet(place)) = fault;
+    word_at(words, place)
 }
 
 /// Does what the words ask for.
-fn try_words(rt: &HostRuntime, words: &[String]) -> Result<(), Trouble> {
+fn try_words<'a>(rt: &HostRuntime, words: &'a [String]) -> Result<(), Trouble<'a>> {
     match read_options(words) {
-        Ok(options) => try_session(rt, words, options),
-        Err(fault) => Err(Trouble::Words(fault)),
+        Ok(options) => try_session(rt, Asked { words, options }),
+        Err(fault) => Err(Trouble::of_words(fault, word_of(words, fault))),
     }
 }
 
 fn main(rt: HostRuntime) -> io::Result<()> {
-    let mut words = Vec::new(rt.alloc());
-    for word in env::args(&rt)?.skip(1) {
-        words.push(word)?;
-    }
+    let words: Vec<String> = env::args(&rt)?.skip(1).collect(rt.alloc())?;
     if words.is_empty() {
         return rt.println(USAGE);
     }
     match try_words(&rt, words.as_slice()) {
-        Ok(()) => Ok(()),
-        Err(trouble) => trouble.tell(&rt, words.as_slice()),
+        Ok(()) | Err(Trouble::Silent(_)) => Ok(()),
+        Err(trouble) => println!(rt; "sessions: {trouble}"),
     }
 }

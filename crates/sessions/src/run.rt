@@ -21,7 +21,7 @@ pub struct Run<B: Bench> {
 
 impl<B: Bench> Run<B> {
     /// A new computer, aimed and started.
-    pub(crate) fn start(rt: &HostRuntime, setup: &Setup) -> Result<Run<B>, Trouble> {
+    pub(crate) fn start(rt: &HostRuntime, setup: &Setup) -> Result<Run<B>, Trouble<'static>> {
         let mut computer = B::fresh();
         let _ = computer.aim(setup.from);
         let _ = computer.start();
@@ -64,7 +64,7 @@ impl<B: Bench> Run<B> {
     }
 
     /// Steps until the session ends, with word of it now and then.
-    pub(crate) fn run(&mut self, rt: &HostRuntime, limit: Limit) -> Result<Stop, Trouble> {
+    pub(crate) fn run(&mut self, rt: &HostRuntime, limit: Limit) -> Result<Stop, Trouble<'static>> {
         for _ in 0..u64::MAX {
             if let Some(stop) = (0..CHUNK).find_map(|_| self.step(limit)) {
                 return Ok(stop);
@@ -75,7 +75,11 @@ impl<B: Bench> Run<B> {
     }
 
     /// The same with a row for each step.
-    pub(crate) fn trace(&mut self, rt: &HostRuntime, limit: Limit) -> Result<Stop, Trouble> {
+    pub(crate) fn trace(
+        &mut self,
+        rt: &HostRuntime,
+        limit: Limit,
+    ) -> Result<Stop, Trouble<'static>> {
         rt.println(B::heading())?;
         for _ in 0..u64::MAX {
             if self.counts.reach(limit) {

@@ -19,21 +19,11 @@ fn character(bytes: &[u8]) -> Option<u8> {
     }
 }
 
-/// The decimal digits at the front of a line, and what stands behind the space after them.
-fn split(line: &[u8]) -> Option<(&[u8], &[u8])> {
-    for (at, byte) in line.iter().enumerate() {
-        if *byte == b' ' {
-            return Some((&line[0..at], &line[at + 1..]));
-        }
-    }
-    None
-}
-
 /// One record.
 fn record(line: &[u8]) -> Option<Cue> {
-    let (digits, rest) = split(line)?;
-    let wait = decimal(digits)?;
-    let character = character(rest)?;
+    let space = line.iter().position(|byte| *byte == b' ')?;
+    let wait = decimal(&line[..space])?;
+    let character = character(&line[space + 1..])?;
     if wait > 65_535 {
         return None;
     }
@@ -43,19 +33,17 @@ fn record(line: &[u8]) -> Option<Cue> {
     })
 }
 
-/// The records of a script; `place` is where its name stands.
-pub(crate) fn read_script(
+/// The records of the script of that name.
+pub(crate) fn read_script<'a>(
     rt: &HostRuntime,
-    place: usize,
+    name: &'a str,
     text: &[u8],
-) -> Result<Vec<Cue>, Trouble> {
+) -> Result<Vec<Cue>, Trouble<'a>> {
     let mut cues = Vec::new(rt.alloc());
-    let mut number = 0u32;
-    for line in Lines::new(text) {
-        number = number.saturating_add(1);
+    for (line, number) in Lines::new(text).zip(1..u32::MAX) {
         match record(line) {
             Some(cue) => cues.push(cue)?,
-            None => return Err(Trouble::NoRecord(place, number)),
+            None => return Err(Trouble::NoRecord(name, number)),
         }
     }
     Ok(cues)

@@ -1,4 +1,5 @@
 //! One session: set up, run, told and saved.
+use crate::asked::Asked;
 use crate::bench::Bench;
 use crate::both::run_both;
 use crate::counts::{Counts, Limit, Stop};
@@ -7,7 +8,6 @@ use crate::run::Run;
 use crate::setup::{Setup, set_up};
 use crate::trouble::Trouble;
 use crate::usage::USAGE;
-use crate::word_at;
 use clock_bench::ClockComputer;
 use cycle_bench::CycleComputer;
 use memory::ImageMemory;
@@ -16,7 +16,7 @@ use std::fs;
 use std::time::Instant;
 
 /// Refuses options that do not go together.
-fn check_together(options: Options) -> Result<(), Trouble> {
+fn check_together(options: Options) -> Result<(), Trouble<'static>> {
     if options.both && options.clock {
         Err(Trouble::Together("--both or --clock, and not both of them"))
     } else if options.both && options.trace {
@@ -36,7 +36,7 @@ fn run_on<B: Bench>(
     setup: &Setup,
     limit: Limit,
     trace: bool,
-) -> Result<Ending, Trouble> {
+) -> Result<Ending, Trouble<'static>> {
     let mut run: Run<B> = Run::start(rt, setup)?;
     let stop = if trace {
         run.trace(rt, limit)?
@@ -47,7 +47,7 @@ fn run_on<B: Bench>(
 }
 
 /// Tells how fast a session went.
-fn tell_time(rt: &HostRuntime, counts: Counts, started: Instant) -> Result<(), Trouble> {
+fn tell_time(rt: &HostRuntime, counts: Counts, started: Instant) -> Result<(), Trouble<'static>> {
     let nanoseconds = started.elapsed(rt)?.as_nanos().max(1);
     let cycles = u128::from(counts.cycles).saturating_mul(1000) / nanoseconds;
     let clocks = u128::from(counts.clocks).saturating_mul(1000) / nanoseconds;
@@ -59,7 +59,7 @@ fn tell_time(rt: &HostRuntime, counts: Counts, started: Instant) -> Result<(), T
 }
 
 /// Says that the limit ended the session, apart from what it prints.
-fn tell_budget(rt: &HostRuntime, limit: Limit) -> Result<(), Trouble> {
+fn tell_budget(rt: &HostRuntime, limit: Limit) -> Result<(), Trouble<'static>> {
     if limit.clocks < u64::MAX {
         eprintln!(rt; "it did not halt: --clocks N or --cycles N lets it run longer")?;
     } else {
@@ -70,27 +70,21 @@ fn tell_budget(rt: &HostRuntime, limit: Limit) -> Result<(), Trouble> {
 }
 
 /// Writes the memory to a file: whole or not at all.
-fn save(
-    rt: &HostRuntime,
-    words: &[String],
-    place: usize,
-    memory: ImageMemory,
-) -> Result<(), Trouble> {
-    let name = word_at(words, place);
+fn save<'a>(rt: &HostRuntime, name: &'a str, memory: ImageMemory) -> Result<(), Trouble<'a>> {
     let part = format!(in rt.alloc(); "{name}.part")?;
     let bytes = memory.into_bytes();
     if fs::write(rt, part.as_str(), bytes.as_slice()).is_err() {
-        return Err(Trouble::Unwritable(place));
+        return Err(Trouble::Unwritable(name));
     }
     if fs::rename(rt, part.as_str(), name).is_err() {
         let _ = fs::remove_file(rt, part.as_str());
-        return Err(Trouble::Unwritable(place));
+        return Err(Trouble::Unwritable(name));
     }
     Ok(())
 }
 
 /// Runs on the bench that the options ask for.
-fn run(rt: &HostRuntime, setup: &Setup, options: Options) -> Result<Ending, Trouble> {
+fn run(rt: &HostRuntime, setup: &Setup, options: Options) -> Result<Ending, Trouble<'static>> {
     let limit = Limit::of(options);
     if options.both {
         run_both(rt, setup, limit)
@@ -101,18 +95,15 @@ fn run(rt: &HostRuntime, setup: &Setup, options: Options) -> Result<Ending, Trou
     }
 }
 
-/// Tries what the options ask for, and tells what came of it.
-pub(crate) fn try_session(
-    rt: &HostRuntime,
-    words: &[String],
-    options: Options,
-) -> Result<(), Trouble> {
+/// Tries what is asked for, and tells what came of it.
+pub(crate) fn try_session<'a>(rt: &HostRuntime, asked: Asked<'a>) -> Result<(), Trouble<'a>> {
+    let options = asked.options;
     if options.help {
         rt.println(USAGE)?;
         return Ok(());
     }
     check_together(options)?;
-    let setup = set_up(rt, words, options)?;
+    let setup = set_up(rt, asked)?;
     let started = Instant::now(rt)?;
     let ending = run(rt, &setup, options)?;
     if options.time {
@@ -125,8 +116,8 @@ pub(crate) fn try_session(
     if let Stop::Budget = ending.stop {
         tell_budget(rt, Limit::of(options))?;
     }
-    if let Some(place) = options.save {
-        save(rt, words, place, ending.memory)?;
+    if let Some(name) = asked.word(options.save) {
+        save(rt, name, ending.memory)?;
     }
     Ok(())
 }
