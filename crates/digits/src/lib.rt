@@ -51,6 +51,7 @@ pub fn byte_digits(byte: u8) -> [u8; 2]
 }
 
 /// An address: three digits, for its low twelve bits.
+#[tactic(auto, using(crate::proofs::Powers::three_digits))]
 pub fn address_digits(address: u16) -> [u8; 3]
     ensures { result ≡ address_digits address }
 {
@@ -58,6 +59,7 @@ pub fn address_digits(address: u16) -> [u8; 3]
 }
 
 /// A word: four digits.
+#[tactic(auto, using(crate::proofs::Powers::four_digits))]
 pub fn word_digits(word: u16) -> [u8; 4]
     ensures { result ≡ word_digits word }
 {
