@@ -1,7 +1,8 @@
 //! What stands in one place of a row or a line.
-ghost use Rattle.std.specs.Prelude.{◌≡◌, ◌++◌, length, OnOk};
+ghost use Rattle.std.specs.Prelude.{◌≡◌, length};
 ghost use Rattle.rows.specs.Cells.{cell_text};
 
+use crate::piece::Piece;
 use std::alloc::AllocError;
 
 /// What a register holds, or the name of an instruction.
@@ -30,16 +31,18 @@ impl Cell {
     }
 }
 
-/// Writes a cell behind a text.
-pub(crate) fn push_cell(text: &mut Vec<u8>, cell: Cell) -> Result<(), AllocError>
-    ensures { OnOk result (text.new.items ≡ text.old.items ++ cell_text cell) }
-{
-    match cell {
-        Cell::Flag(up) => text.extend_from_slice(&digits::flag_digit(up)),
-        Cell::Count(count) => text.extend_from_slice(&digits::count_digit(count)),
-        Cell::Byte(byte) => text.extend_from_slice(&digits::byte_digits(byte)),
-        Cell::Address(address) => text.extend_from_slice(&digits::address_digits(address)),
-        Cell::Word(word) => text.extend_from_slice(&digits::word_digits(word)),
-        Cell::Instruction(bytes) => text.extend_from_slice(&bytes),
+impl Piece for Cell {
+    ghost written = { cell_text };
+
+    fn push_to(&self, text: &mut Vec<u8>) -> Result<(), AllocError> {
+        let cell = *self;
+        match cell {
+            Cell::Flag(up) => text.extend_from_slice(&digits::flag_digit(up)),
+            Cell::Count(count) => text.extend_from_slice(&digits::count_digit(count)),
+            Cell::Byte(byte) => text.extend_from_slice(&digits::byte_digits(byte)),
+            Cell::Address(address) => text.extend_from_slice(&digits::address_digits(address)),
+            Cell::Word(word) => text.extend_from_slice(&digits::word_digits(word)),
+            Cell::Instruction(bytes) => text.extend_from_slice(&bytes),
+        }
     }
 }
