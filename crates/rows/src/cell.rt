@@ -1,5 +1,4 @@
 //! What stands in one place of a row or a line.
-ghost use Rattle.std.specs.Prelude.{◌≡◌, length};
 ghost use Rattle.rows.specs.Cells.{cell_text};
 
 use crate::piece::Piece;
@@ -14,21 +13,6 @@ pub(crate) enum Cell {
     Address(u16),
     Word(u16),
     Instruction([u8; 10]),
-}
-
-impl Cell {
-    /// How many bytes the cell has.
-    pub(crate) fn width(self) -> usize
-        ensures { result ≡ length (cell_text self) }
-    {
-        match self {
-            Cell::Flag(_) | Cell::Count(_) => 1,
-            Cell::Byte(_) => 2,
-            Cell::Address(_) => 3,
-            Cell::Word(_) => 4,
-            Cell::Instruction(bytes) => bytes.len(),
-        }
-    }
 }
 
 impl Piece for Cell {

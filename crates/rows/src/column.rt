@@ -22,7 +22,9 @@ impl Piece for Column {
 
     fn push_to(&self, text: &mut Vec<u8>) -> Result<(), AllocError> {
         let (room, cell) = *self;
+        let before = text.len();
         cell.push_to(text)?;
-        push_spaces(text, room.saturating_sub(cell.width()))
+        let width = text.len() - before;
+        push_spaces(text, room.saturating_sub(width))
     }
 }
