@@ -2,7 +2,7 @@
 #![tactic(auto)]
 
 ghost use Rattle.std.specs.Prelude.{◌≡◌};
-ghost use Rattle.digits.specs.Digits.{last_digit, flag_digit, count_digit, byte_digits, address_digits, word_digits};
+ghost use Rattle.digits.specs.Digits.{last_digit, digits, flag_digit, count_digit, byte_digits, address_digits, word_digits};
 
 /// The digit for a number's last four bits.
 fn digit(number: u16) -> u8
@@ -16,43 +16,52 @@ fn digit(number: u16) -> u8
     }
 }
 
+/// The last digits of a number, as many as the array holds.
+fn hexadecimal<const N: usize>(number: u16) -> [u8; N]
+    ensures { result ≡ digits N number }
+{
+    let mut digits = [0; N];
+    let mut rest = number;
+    for place in (0..N).rev() {
+        digits[place] = digit(rest);
+        rest /= 16;
+    }
+    digits
+}
+
 /// A flip-flop: 0 or 1.
 pub fn flag_digit(up: bool) -> [u8; 1]
     ensures { result ≡ flag_digit up }
 {
-    if up { [b'1'] } else { [b'0'] }
+    hexadecimal(u16::from(up))
 }
 
 /// A sequence counter: one digit.
 pub fn count_digit(count: u8) -> [u8; 1]
     ensures { result ≡ count_digit count }
 {
-    [digit(u16::from(count))]
+    hexadecimal(u16::from(count))
 }
 
 /// A character: two digits.
 pub fn byte_digits(byte: u8) -> [u8; 2]
     ensures { result ≡ byte_digits byte }
 {
-    let number = u16::from(byte);
-    [digit(number / 16), digit(number)]
+    hexadecimal(u16::from(byte))
 }
 
 /// An address: three digits, for its low twelve bits.
+#[tactic(auto, using(crate::proofs::Powers::three_digits))]
 pub fn address_digits(address: u16) -> [u8; 3]
     ensures { result ≡ address_digits address }
 {
-    [digit(address / 256), digit(address / 16), digit(address)]
+    hexadecimal(address)
 }
 
 /// A word: four digits.
+#[tactic(auto, using(crate::proofs::Powers::four_digits))]
 pub fn word_digits(word: u16) -> [u8; 4]
     ensures { result ≡ word_digits word }
 {
-    [
-        digit(word / 4096),
-        digit(word / 256),
-        digit(word / 16),
-        digit(word),
-    ]
+    hexadecimal(word)
 }

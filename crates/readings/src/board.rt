@@ -1,9 +1,10 @@
 //! Readings of the panel, which no sheet can make.
 use crate::rig::difference::Shown;
-use crate::rig::{Outcome, Rig};
+use crate::rig::{Outcome, Refused, Rig};
 use crate::tally::Tally;
-use machine::Call;
+use machine::{Call, Refusal};
 use memory::WordMemory;
+use sheets::LayingFault;
 use sheets::assembly::assemble;
 
 /// What a call returns on both benches and on the second simulator, over a zeroed memory of that size.
@@ -52,19 +53,21 @@ fn run_returned(rt: &HostRuntime, size: usize) -> anyhow::Result<Outcome> {
     let words = vec![in rt.alloc(); 0; size]?;
     let mut rig = Rig::new(rt.alloc(), words.as_slice(), &[], 0)?;
     let _ = rig.on_instruction_bench(Call::Start);
-    match rig.twin.run(&mut rig.twin_memory, &mut rig.twin_line, 5) {
-        Ok((cycles, _)) => Ok(Ok(u32::from(cycles))),
-        Err(refusal) => Ok(Err(u32::from(refusal.number()))),
-    }
+    let ran = rig.twin.run(&mut rig.twin_memory, &mut rig.twin_line, 5);
+    Ok(
+        ran.map(|(cycles, _)| u32::from(cycles))
+            .map_err(Refused::from),
+    )
 }
 
 /// What laying one word returns in a memory of that size.
 fn laying_returned(rt: &HostRuntime, size: usize) -> anyhow::Result<Outcome> {
     let mut memory = WordMemory::new(vec![in rt.alloc(); 0; size]?);
-    match assemble(rt.alloc(), 1, b"HEX 1\nEND\n", &mut memory)? {
-        Ok((count, _, _)) => Ok(Ok((count % 65_536) as u32)),
-        Err(fault) => Ok(Err(u32::from(fault.number()))),
-    }
+    let laid = assemble(rt.alloc(), 1, b"HEX 1\nEND\n", &mut memory)?;
+    Ok(
+        laid.map(|(count, _, _)| (count % 65_536) as u32)
+            .map_err(Refused::from),
+    )
 }
 
 /// Every call that needs a memory refuses one of a wrong size.
@@ -74,36 +77,35 @@ fn tell_size(rt: &HostRuntime, size: usize, tally: &mut Tally) -> anyhow::Result
         ("deposit", Call::Deposit(0, 1)),
         ("examine", Call::Examine(0)),
     ];
-    for (name, call) in calls.iter() {
+    let refused = Err(Refused::from(Refusal::MemorySize));
+    for (name, call) in calls {
         print!(rt; "memory of {size} words, S up, {name}")?;
-        tell(rt, returned(rt, size, true, *call)?, Err(1), tally)?;
+        tell(rt, returned(rt, size, true, call)?, refused, tally)?;
     }
     let run = run_returned(rt, size)?;
     print!(rt; "memory of {size} words, S up, run")?;
-    tell(rt, [run; 3], Err(1), tally)?;
+    tell(rt, [run; 3], refused, tally)?;
     let laying = laying_returned(rt, size)?;
     print!(rt; "memory of {size} words, laying")?;
-    tell(rt, [laying; 3], Err(1), tally)
+    tell(rt, [laying; 3], Err(LayingFault::MemorySize.into()), tally)
 }
 
 /// Tells all readings of the panel.
 pub(crate) fn try_panel(rt: &HostRuntime, tally: &mut Tally) -> anyhow::Result<()> {
     tell_size(rt, 4095, tally)?;
     tell_size(rt, 4097, tally)?;
-    print!(rt; "new computer, aim FFF")?;
-    tell(
-        rt,
-        returned(rt, 4096, false, Call::Aim(0xFFF))?,
-        Ok(0),
-        tally,
-    )?;
-    print!(rt; "new computer, aim 1000")?;
-    tell(
-        rt,
-        returned(rt, 4096, false, Call::Aim(0x1000))?,
-        Err(2),
-        tally,
-    )?;
-    print!(rt; "new computer, clock")?;
-    tell(rt, returned(rt, 4096, false, Call::Clock)?, Err(3), tally)
+    let calls = [
+        ("aim FFF", Call::Aim(0xFFF), Ok(0)),
+        (
+            "aim 1000",
+            Call::Aim(0x1000),
+            Err(Refusal::AddressRange.into()),
+        ),
+        ("clock", Call::Clock, Err(Refusal::Stopped.into())),
+    ];
+    for (name, call, expected) in calls {
+        print!(rt; "new computer, {name}")?;
+        tell(rt, returned(rt, 4096, false, call)?, expected, tally)?;
+    }
+    Ok(())
 }

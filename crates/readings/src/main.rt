@@ -8,11 +8,11 @@ mod second;
 mod tally;
 mod trial;
 
-ghost use Rattle.std.specs.Prelude.{◌<◌, length, IfSome};
+ghost use Rattle.std.specs.Prelude.{◌≤◌, length};
 
 use board::try_panel;
 use random::{try_marks, try_random};
-use std::{env, fs};
+use std::{env, fs, slice};
 use tally::Tally;
 use trial::try_file;
 
@@ -37,31 +37,26 @@ fn try_named(rt: &HostRuntime, name: &str, tally: &mut Tally) -> anyhow::Result<
     }
 }
 
-/// The number that stands first, and the words behind it.
-fn number(words: &[String]) -> Option<(u32, &[String])>
-    ensures { IfSome result (λ p. length p.1.now < length words.now) }
+/// The word that comes next, as a number.
+fn number(words: &mut slice::Iter<String>) -> Option<u32>
+    ensures { length words.new.rest.now ≤ length words.old.rest.now }
 {
-    let [word, behind @ ..] = words else {
-        return None;
-    };
-    Some((word.parse::<u32>().ok()?, behind))
+    words.next()?.parse::<u32>().ok()
 }
 
 /// Does what the words ask for, one after the other, and answers whether all were understood.
 fn try_words(rt: &HostRuntime, words: &[String], tally: &mut Tally) -> anyhow::Result<bool> {
     let mut seed = 1;
-    let mut rest = words;
-    while let [word, behind @ ..] = rest {
-        rest = behind;
+    let mut words = words.iter();
+    while let Some(word) = words.next() {
         match word.as_str() {
             "--panel" => try_panel(rt, tally)?,
             "--marks" => try_marks(rt, seed)?,
             "--seed" | "--random" => {
-                let Some((value, others)) = number(behind) else {
+                let Some(value) = number(&mut words) else {
                     println!(rt; "readings: {word} wants a number behind it")?;
                     return Ok(false);
                 };
-                rest = others;
                 if word.as_str() == "--seed" {
                     seed = value;
                 } else {
@@ -83,9 +78,9 @@ fn run(rt: &HostRuntime) -> anyhow::Result<()> {
         rt.println(USAGE)?;
         return Ok(());
     }
-    let mut tally = Tally::new();
+    let mut tally = Tally::default();
     if try_words(rt, words.as_slice(), &mut tally)? {
-        tally.tell(rt)?;
+        println!(rt; "{tally}")?;
     }
     Ok(())
 }

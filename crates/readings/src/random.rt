@@ -10,6 +10,7 @@ use crate::random::words::{random_cues, random_words};
 use crate::rig::{Difference, Rig};
 use machine::Call;
 pub(crate) use marks::try_marks;
+use std::alloc::{AllocError, Global};
 
 /// The cycles made on one memory before the next one is drawn.
 const CYCLES_OF_A_MEMORY: u32 = 1000;
@@ -30,54 +31,85 @@ fn random_call(dice: &mut Dice, running: bool) -> Call {
     }
 }
 
-/// One call on a rig, counted. Answers whether it ended a cycle.
-fn make(rig: &mut Rig, call: Call, coverage: &mut Coverage) -> Result<bool, Difference> {
-    let outcome = rig.call(call)?;
-    coverage.count_call(call, outcome);
-    Ok(coverage.count_cycle(call, outcome, rig.computer.registers().ir))
+/// The dice that draw words and calls, and what these have tried so far.
+#[derive(Drop)]
+struct Experiment {
+    dice: Dice,
+    coverage: Coverage,
 }
 
-/// Random calls on one rig, until so many cycles are made.
-fn try_calls(
-    dice: &mut Dice,
-    rig: &mut Rig,
-    cycles: u32,
-    coverage: &mut Coverage,
-) -> Result<(), Difference> {
-    let mut made = 0;
-    for _ in 0..100 * u64::from(cycles) {
-        if made >= cycles {
-            break;
-        }
-        let call = random_call(dice, rig.computer.registers().s);
-        if make(rig, call, coverage)? {
-            made += 1;
-        }
+impl Experiment {
+    /// With that seed; nothing is tried yet.
+    fn new(heap: Global, seed: u32) -> Result<Experiment, AllocError> {
+        Ok(Experiment {
+            dice: Dice::new(seed),
+            coverage: Coverage::new(heap)?,
+        })
     }
-    Ok(())
-}
 
-/// Tells the place of a difference, or that there was none.
-fn tell_difference(
-    rt: &HostRuntime,
-    memory: u32,
-    calls: u32,
-    tried: Result<(), Difference>,
-) -> anyhow::Result<()> {
-    match tried {
-        Ok(()) => rt.println("  no difference")?,
-        Err(difference) => println!(rt;
-            "  DIFFERENCE in memory {memory}, after {calls} calls: {difference}"
-        )?,
+    /// One call on a rig, counted. Answers whether it ended a cycle.
+    fn make(&mut self, rig: &mut Rig, call: Call) -> Result<bool, Difference> {
+        let outcome = rig.call(call)?;
+        self.coverage.count_call(call, outcome);
+        let ir = rig.computer.registers().ir;
+        Ok(self.coverage.count_cycle(call, outcome, ir))
     }
-    Ok(())
+
+    /// Random calls on one rig, until so many cycles are made.
+    fn try_calls(&mut self, rig: &mut Rig, cycles: u32) -> Result<(), Difference> {
+        let mut made = 0;
+        for _ in 0..100 * u64::from(cycles) {
+            if made >= cycles {
+                break;
+            }
+            let call = random_call(&mut self.dice, rig.computer.registers().s);
+            if self.make(rig, call)? {
+                made += 1;
+            }
+        }
+        Ok(())
+    }
+
+    /// Random calls on a rig over random words. The kinds of memory take turns.
+    fn try_memory(
+        &mut self,
+        heap: Global,
+        memory: u32,
+    ) -> Result<Result<(), Difference>, AllocError> {
+        self.coverage.begin_memory();
+        let words = random_words(heap, &mut self.dice, memory)?;
+        let cues = random_cues(heap, &mut self.dice)?;
+        let paper = usize::from(self.dice.roll(400));
+        let mut rig = Rig::new(heap, words.as_slice(), cues.as_slice(), paper)?;
+        let tried = self.try_calls(&mut rig, CYCLES_OF_A_MEMORY);
+        self.coverage.count_line(&rig.line, cues.len());
+        Ok(tried)
+    }
+
+    /// Tells the place of a difference, or that there was none, and how much was tried.
+    fn tell(
+        &self,
+        rt: &HostRuntime,
+        memory: u32,
+        tried: Result<(), Difference>,
+    ) -> anyhow::Result<()> {
+        let coverage = &self.coverage;
+        let calls = coverage.calls;
+        match tried {
+            Ok(()) => rt.println("  no difference")?,
+            Err(difference) => println!(rt;
+                "  DIFFERENCE in memory {memory}, after {calls} calls: {difference}"
+            )?,
+        }
+        println!(rt; "{coverage}")?;
+        Ok(())
+    }
 }
 
 /// Tries that many cycles of random words and tells how much was tried, and the first difference if there is one.
 pub(crate) fn try_random(rt: &HostRuntime, seed: u32, cycles: u32) -> anyhow::Result<()> {
     println!(rt; "random words, seed {seed}:")?;
-    let mut dice = Dice::new(seed);
-    let mut coverage = Coverage::new(rt.alloc())?;
+    let mut experiment = Experiment::new(rt.alloc(), seed)?;
     let mut tried = Ok(());
     let mut present = 0;
     for memory in 0..cycles / CYCLES_OF_A_MEMORY {
@@ -85,14 +117,7 @@ pub(crate) fn try_random(rt: &HostRuntime, seed: u32, cycles: u32) -> anyhow::Re
             break;
         }
         present = memory;
-        coverage.begin_memory();
-        let words = random_words(rt.alloc(), &mut dice, memory)?;
-        let cues = random_cues(rt.alloc(), &mut dice)?;
-        let paper = usize::from(dice.roll(400));
-        let mut rig = Rig::new(rt.alloc(), words.as_slice(), cues.as_slice(), paper)?;
-        tried = try_calls(&mut dice, &mut rig, CYCLES_OF_A_MEMORY, &mut coverage);
-        coverage.count_line(&rig.line, cues.len());
+        tried = experiment.try_memory(rt.alloc(), memory)?;
     }
-    tell_difference(rt, present, coverage.calls, tried)?;
-    coverage.tell(rt)
+    experiment.tell(rt, present, tried)
 }

@@ -3,14 +3,15 @@ pub(crate) mod compare;
 pub(crate) mod difference;
 mod outcome;
 
+use crate::second;
 use crate::second::{Key, Second, Teletype};
 use clock_bench::ClockComputer;
 use cycle_bench::CycleComputer;
 pub(crate) use difference::{Bench, Difference};
 use line::{Cue, ScriptLine};
-use machine::{Call, Refusal};
+use machine::Call;
 use memory::{ImageMemory, WordMemory};
-pub(crate) use outcome::Outcome;
+pub(crate) use outcome::{Outcome, Refused};
 use std::alloc::{AllocError, Global};
 
 /// Four boards that start with the same words and the same characters to come. The clock bench works on words and the
@@ -30,11 +31,10 @@ pub(crate) struct Rig {
 
 /// The words as bytes, the high byte first.
 fn image(heap: Global, words: &[u16]) -> Result<Vec<u8>, AllocError> {
-    let mut bytes = Vec::new(heap);
-    for word in words {
-        bytes.extend_from_slice(&word.to_be_bytes())?;
-    }
-    Ok(bytes)
+    words
+        .iter()
+        .flat_map(|word| word.to_be_bytes())
+        .collect(heap)
 }
 
 /// A script line with these cues and a blank paper.
@@ -43,36 +43,39 @@ fn script_line(heap: Global, cues: &[Cue], paper: usize) -> Result<ScriptLine, A
 }
 
 /// A second board with these words, keys and paper.
-fn second(heap: Global, words: &[u16], cues: &[Cue], paper: usize) -> Result<Second, AllocError> {
-    let mut keys = Vec::new(heap);
-    for cue in cues {
-        keys.push(Key {
-            after: cue.wait as u32,
+fn second_board(
+    heap: Global,
+    words: &[u16],
+    cues: &[Cue],
+    paper: usize,
+) -> Result<Second, AllocError> {
+    let keys = cues
+        .iter()
+        .map(|cue| Key {
+            after: u32::from(cue.wait),
             code: cue.character,
-        })?;
-    }
-    let teletype = Teletype::new(keys, vec![in heap; 0; paper]?);
+        })
+        .collect(heap)?;
+    let teletype = Teletype::new(heap, keys, paper)?;
     Ok(Second::new(words.to_vec(heap)?, teletype))
 }
 
-/// A call on a second board; a clock is one clock or one whole cycle.
-fn ask(second: &mut Second, call: Call, whole: bool) -> Outcome {
+/// A call on a second board, which makes one step where the call is a clock.
+fn ask<F: FnOnce(&mut Second) -> Result<u32, second::Refusal>>(
+    board: &mut Second,
+    call: Call,
+    step: F,
+) -> Outcome
+    requires { F.IsAlwaysCallable step }
+{
     match call {
-        Call::Clock if whole => second.cycle(),
-        Call::Clock => second.clock(),
-        Call::Start => second.start(),
-        Call::Aim(address) => second.aim(u32::from(address)),
-        Call::Deposit(address, word) => second.deposit(u32::from(address), u32::from(word)),
-        Call::Examine(address) => second.examine(u32::from(address)),
+        Call::Clock => return Ok(step(board)?),
+        Call::Examine(address) => return Ok(board.examine(u32::from(address))?),
+        Call::Start => board.start()?,
+        Call::Aim(address) => board.aim(u32::from(address))?,
+        Call::Deposit(address, word) => board.deposit(u32::from(address), u32::from(word))?,
     }
-}
-
-/// What a bench returned, in plain numbers.
-fn plain(returned: Result<u16, Refusal>) -> Outcome {
-    match returned {
-        Ok(answer) => Ok(u32::from(answer)),
-        Err(refusal) => Err(u32::from(refusal.number())),
-    }
+    Ok(0)
 }
 
 impl Rig {
@@ -90,31 +93,31 @@ impl Rig {
             twin: CycleComputer::new(),
             twin_memory: ImageMemory::new(image(heap, words)?),
             twin_line: script_line(heap, cues, paper)?,
-            by_clocks: second(heap, words, cues, paper)?,
-            by_cycles: second(heap, words, cues, paper)?,
+            by_clocks: second_board(heap, words, cues, paper)?,
+            by_cycles: second_board(heap, words, cues, paper)?,
             inside: false,
         })
     }
 
     /// A call on the clock bench.
     pub(crate) fn on_clock_bench(&mut self, call: Call) -> Outcome {
-        plain(
-            self.computer
-                .perform(call, &mut self.memory, &mut self.line),
-        )
+        let answer = self
+            .computer
+            .perform(call, &mut self.memory, &mut self.line)?;
+        Ok(u32::from(answer))
     }
 
     /// A call on the instruction bench.
     pub(crate) fn on_instruction_bench(&mut self, call: Call) -> Outcome {
-        plain(
-            self.twin
-                .perform(call, &mut self.twin_memory, &mut self.twin_line),
-        )
+        let answer = self
+            .twin
+            .perform(call, &mut self.twin_memory, &mut self.twin_line)?;
+        Ok(u32::from(answer))
     }
 
     /// A call on the second simulator, by clocks.
     pub(crate) fn on_second(&mut self, call: Call) -> Outcome {
-        ask(&mut self.by_clocks, call, false)
+        ask(&mut self.by_clocks, call, |board| board.clock())
     }
 
     /// A call on the boards that are clocked, and on those that make whole cycles unless it is a clock that ended no cycle or
@@ -132,16 +135,11 @@ impl Rig {
         if !struck {
             let twin = self.on_instruction_bench(call);
             compare::outcomes(Bench::Instruction, twin, ours)?;
-            compare::outcomes(
-                Bench::Instruction,
-                twin,
-                ask(&mut self.by_cycles, call, true),
-            )?;
+            let second = ask(&mut self.by_cycles, call, |board| board.cycle());
+            compare::outcomes(Bench::Instruction, twin, second)?;
         }
-        if let Call::Clock = call {
-            if ours.is_ok() {
-                self.inside = ours == Ok(0);
-            }
+        if let (Call::Clock, Ok(clocks)) = (call, ours) {
+            self.inside = clocks == 0;
         }
         if !self.inside {
             self.compare_whole()?;

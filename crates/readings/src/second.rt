@@ -9,12 +9,14 @@ mod marks;
 mod merge;
 pub(crate) mod numbers;
 mod panel;
+mod refusal;
 mod register;
 mod teletype;
 mod transfers;
 
 pub(crate) use numbers::Numbers;
-pub(crate) use register::{EVERY_REGISTER, Register};
+pub(crate) use refusal::Refusal;
+pub(crate) use register::Register;
 pub(crate) use teletype::{Key, Teletype};
 
 /// A whole second board: its registers, its words and its teletype.
@@ -28,7 +30,7 @@ pub(crate) struct Second {
 impl Second {
     /// A new board over these words: zero in every register, except that FGO is up.
     pub(crate) fn new(words: Vec<u16>, teletype: Teletype) -> Second {
-        let mut numbers = Numbers::zero();
+        let mut numbers = Numbers::default();
         numbers.put(Register::Fgo, 1);
         Second {
             numbers,
@@ -39,10 +41,9 @@ impl Second {
 
     /// The word at an address.
     pub(crate) fn word(&self, address: u32) -> u32 {
-        match self.words.get(address as usize) {
-            Some(word) => u32::from(*word),
-            None => 0,
-        }
+        self.words
+            .get(address as usize)
+            .map_or(0, |word| u32::from(*word))
     }
 
     /// Writes a number of 16 bits at an address.

@@ -2,14 +2,15 @@
 mod expected;
 mod settings;
 
-use crate::rig::{Difference, Rig};
+use crate::rig::{Difference, Refused, Rig};
 use crate::tally::Tally;
-use crate::trial::expected::{Expected, read_expected};
-use crate::trial::settings::{Settings, read_settings, remark};
+use crate::trial::expected::{Expectation, Expected, expectations};
+use crate::trial::settings::{Settings, read_settings};
 use line::Cue;
 use machine::Call;
 use memory::WordMemory;
 use sheets::assembly::assemble;
+use std::alloc::{AllocError, Global};
 
 /// How many characters a trial may print.
 const PAPER: usize = 4096;
@@ -23,7 +24,7 @@ fn run(rig: &mut Rig, from: u16, cycles: u32) -> Result<(), Difference> {
         if made >= cycles || !rig.computer.registers().s {
             break;
         }
-        if rig.call(Call::Clock)? > Ok(0) {
+        if rig.call(Call::Clock)? != Ok(0) {
             made += 1;
         }
     }
@@ -31,77 +32,63 @@ fn run(rig: &mut Rig, from: u16, cycles: u32) -> Result<(), Difference> {
 }
 
 /// The characters of a trial, each after the same wait.
-fn cues(rt: &HostRuntime, settings: Settings) -> anyhow::Result<Vec<Cue>> {
-    let mut cues = Vec::new(rt.alloc());
-    for character in settings.input.bytes() {
-        cues.push(Cue {
-            wait: settings.wait,
-            character,
-        })?;
-    }
-    Ok(cues)
+fn cues(heap: Global, settings: Settings) -> Result<Vec<Cue>, AllocError> {
+    let wait = settings.wait;
+    settings
+        .input
+        .bytes()
+        .map(|character| Cue { wait, character })
+        .collect(heap)
 }
 
 /// Tells what is expected.
-fn tell_expected(rt: &HostRuntime, text: &str) -> anyhow::Result<()> {
+fn tell_expected(rt: &HostRuntime, expectations: &[Expectation]) -> anyhow::Result<()> {
     print!(rt; "; expected")?;
-    for line in text.lines() {
-        if let Some(("expect", rest)) = remark(line) {
-            if let Some(expected) = read_expected(rest) {
-                expected.show(rt)?;
-            }
+    for expectation in expectations {
+        if let Ok(expected) = expectation {
+            print!(rt; " {expected}")?;
         }
     }
     Ok(())
 }
 
 /// Tells what is read where something is expected, and answers whether it is all the same and something at all.
-fn tell_read(rt: &HostRuntime, text: &str, rig: &Rig) -> anyhow::Result<bool> {
-    let mut some = false;
-    let mut same = true;
+fn tell_read(rt: &HostRuntime, expectations: &[Expectation], rig: &Rig) -> anyhow::Result<bool> {
+    let mut same = !expectations.is_empty();
     print!(rt; ": read")?;
-    for line in text.lines() {
-        if let Some(("expect", rest)) = remark(line) {
-            some = true;
-            match read_expected(rest) {
-                Some(expected) => same &= expected.show_read(rt, rig)?,
-                None => {
-                    print!(rt; " (not understood: {rest})")?;
-                    same = false;
-                }
+    for expectation in expectations {
+        match expectation {
+            Ok(expected) => same &= expected.show_read(rt, rig)?,
+            Err(rest) => {
+                print!(rt; " (not understood: {rest})")?;
+                same = false;
             }
-        }
-    }
-    Ok(some && same)
-}
-
-/// Tells the refusal of a sheet, and answers whether just this is expected.
-fn tell_refused(rt: &HostRuntime, text: &str, number: u32) -> anyhow::Result<bool> {
-    print!(rt; ": read refused {number}")?;
-    let mut same = false;
-    for line in text.lines() {
-        if let Some(("expect", rest)) = remark(line) {
-            same = match read_expected(rest) {
-                Some(Expected::Refused(expected)) => expected == number,
-                _ => return Ok(false),
-            };
         }
     }
     Ok(same)
 }
 
+/// Whether refusals are all that is expected, and this one last.
+fn is_expected(expectations: &[Expectation], refused: Refused) -> bool {
+    let all_refused = expectations.iter().all(|expectation| matches!(
+        expectation,
+        Ok(Expected::Refused(_))
+    ));
+    all_refused && expectations.last() == Some(&Ok(Expected::Refused(refused)))
+}
+
 /// Runs words that were laid, and tells what was read.
 fn tell_run(
     rt: &HostRuntime,
-    text: &str,
+    expectations: &[Expectation],
     words: Vec<u16>,
     from: u16,
     settings: Settings,
 ) -> anyhow::Result<bool> {
-    let cues = cues(rt, settings)?;
+    let cues = cues(rt.alloc(), settings)?;
     let mut rig = Rig::new(rt.alloc(), words.as_slice(), cues.as_slice(), PAPER)?;
     let ran = run(&mut rig, from, settings.cycles);
-    let same = tell_read(rt, text, &rig)?;
+    let same = tell_read(rt, expectations, &rig)?;
     match ran {
         Ok(()) => Ok(same),
         Err(difference) => {
@@ -127,15 +114,26 @@ pub(crate) fn try_sheet(
             return Ok(());
         }
     };
+    let expectations = expectations(rt.alloc(), text)?;
     let mut memory = WordMemory::new(vec![in rt.alloc(); 0; 4096]?);
     let same = match assemble(rt.alloc(), 512, text.as_bytes(), &mut memory)? {
-        Err(fault) => tell_refused(rt, text, u32::from(fault.number()))?,
+        Err(fault) => {
+            let refused = Refused::from(fault);
+            print!(rt; ": read {refused}")?;
+            is_expected(expectations.as_slice(), refused)
+        }
         Ok((_, lowest, _)) => {
             let from = settings.from.unwrap_or(lowest);
-            tell_run(rt, text, memory.into_words(), from, settings)?
+            tell_run(
+                rt,
+                expectations.as_slice(),
+                memory.into_words(),
+                from,
+                settings,
+            )?
         }
     };
-    tell_expected(rt, text)?;
+    tell_expected(rt, expectations.as_slice())?;
     tally.end_row(rt, same)?;
     Ok(())
 }

@@ -3,7 +3,7 @@ use Rattle.std.proofs.Common.{◌≡◌, ℕ, ◌+◌, ◌-◌, ◌*◌, ◌/◌
 use Rattle.digits.specs.Digits.{hex_digit, byte_digits}
 use Rattle.rows.specs.Escapes.{prints, escaped_byte, escaped_of, Printable}
 use Rattle.std.proofs.ByRecursion.{All-append}
-use Rattle.std.proofs.lemmas.Bool.{cond_both, cond-false, eqb-true, leb-true, ltb-true, and_parts}
+use Rattle.std.proofs.lemmas.Bool.{cond_both, cond-false, eqb-true, leb-true, and_parts}
 use Rattle.std.proofs.lemmas.Bool.Decides.{nat_tests}
 use Rattle.std.specs.List.{AllByRecursion}
 
@@ -11,7 +11,7 @@ abbrev Prints : ℕ → Type 0
 Prints byte = (32 ≤ byte) × (byte ≤ 126)
 
 digit-prints : (d : ℕ) → d < 16 → Prints (hex_digit d)
-digit-prints d h = cond_both (ltb d 10) (48 + d) (55 + d) Prints (λ e. (omega arith, omega (arith, ltb-true d 10 e))) (λ e. (omega arith, omega arith))
+digit-prints d h = grind (arith, nat_tests)
 
 byte-printable : (byte : ℕ) → Printable (escaped_byte byte)
 byte-printable byte =

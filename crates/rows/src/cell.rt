@@ -1,7 +1,7 @@
 //! What stands in one place of a row or a line.
-ghost use Rattle.std.specs.Prelude.{◌≡◌, ◌++◌, length, OnOk};
 ghost use Rattle.rows.specs.Cells.{cell_text};
 
+use crate::piece::Piece;
 use std::alloc::AllocError;
 
 /// What a register holds, or the name of an instruction.
@@ -15,31 +15,18 @@ pub(crate) enum Cell {
     Instruction([u8; 10]),
 }
 
-impl Cell {
-    /// How many bytes the cell has.
-    pub(crate) fn width(self) -> usize
-        ensures { result ≡ length (cell_text self) }
-    {
-        match self {
-            Cell::Flag(_) | Cell::Count(_) => 1,
-            Cell::Byte(_) => 2,
-            Cell::Address(_) => 3,
-            Cell::Word(_) => 4,
-            Cell::Instruction(bytes) => bytes.len(),
-        }
-    }
-}
+impl Piece for Cell {
+    ghost written = { cell_text };
 
-/// Writes a cell behind a text.
-pub(crate) fn push_cell(text: &mut Vec<u8>, cell: Cell) -> Result<(), AllocError>
-    ensures { OnOk result (text.new.items ≡ text.old.items ++ cell_text cell) }
-{
-    match cell {
-        Cell::Flag(up) => text.extend_from_slice(&digits::flag_digit(up)),
-        Cell::Count(count) => text.extend_from_slice(&digits::count_digit(count)),
-        Cell::Byte(byte) => text.extend_from_slice(&digits::byte_digits(byte)),
-        Cell::Address(address) => text.extend_from_slice(&digits::address_digits(address)),
-        Cell::Word(word) => text.extend_from_slice(&digits::word_digits(word)),
-        Cell::Instruction(bytes) => text.extend_from_slice(&bytes),
+    fn push_to(&self, text: &mut Vec<u8>) -> Result<(), AllocError> {
+        let cell = *self;
+        match cell {
+            Cell::Flag(up) => text.extend_from_slice(&digits::flag_digit(up)),
+            Cell::Count(count) => text.extend_from_slice(&digits::count_digit(count)),
+            Cell::Byte(byte) => text.extend_from_slice(&digits::byte_digits(byte)),
+            Cell::Address(address) => text.extend_from_slice(&digits::address_digits(address)),
+            Cell::Word(word) => text.extend_from_slice(&digits::word_digits(word)),
+            Cell::Instruction(bytes) => text.extend_from_slice(&bytes),
+        }
     }
 }

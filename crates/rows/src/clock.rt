@@ -3,7 +3,7 @@ ghost use Rattle.std.specs.Prelude.{◌≡◌, IfOk};
 ghost use Rattle.rows.specs.Rows.{clock_heading, clock_row};
 
 use crate::cell::Cell;
-use crate::column::in_columns;
+use crate::piece::joined;
 use machine::Registers;
 use std::alloc::{AllocError, Global};
 
@@ -48,5 +48,5 @@ pub fn clock_row(heap: Global, row: ClockRow) -> Result<Vec<u8>, AllocError>
         (5, Cell::Byte(port.inpr)),
         (2, Cell::Byte(port.outr)),
     ];
-    in_columns(heap, &columns)
+    joined(heap, &columns)
 }

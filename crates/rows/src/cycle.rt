@@ -3,7 +3,7 @@ ghost use Rattle.std.specs.Prelude.{◌≡◌, IfOk};
 ghost use Rattle.rows.specs.Rows.{cycle_heading, cycle_row};
 
 use crate::cell::Cell;
-use crate::column::in_columns;
+use crate::piece::joined;
 use machine::Visible;
 use std::alloc::{AllocError, Global};
 
@@ -44,5 +44,5 @@ pub fn cycle_row(heap: Global, row: CycleRow) -> Result<Vec<u8>, AllocError>
         (5, Cell::Byte(port.inpr)),
         (2, Cell::Byte(port.outr)),
     ];
-    in_columns(heap, &columns)
+    joined(heap, &columns)
 }

@@ -1,21 +1,24 @@
 //! Bytes of any kind as text that prints.
-ghost use Rattle.std.specs.Prelude.{◌≡◌, ◌++◌, IfOk, OnOk};
+ghost use Rattle.std.specs.Prelude.{◌≡◌, IfOk};
 ghost use Rattle.rows.specs.Escapes.{escaped_byte, escaped_of, Printable, Tells};
 
+use crate::piece::{Piece, joined};
 use digits::byte_digits;
 use std::alloc::{AllocError, Global};
 
-/// Writes a byte behind a text: as itself if it prints, else by an escape.
-fn push_escaped(text: &mut Vec<u8>, byte: u8) -> Result<(), AllocError>
-    ensures { OnOk result (text.new.items ≡ text.old.items ++ escaped_byte byte) }
-{
-    match byte {
-        b'\\' => text.extend_from_slice(b"\\\\"),
-        b'\n' => text.extend_from_slice(b"\\n"),
-        32..=126 => text.extend_from_slice(&[byte]),
-        _ => {
-            let [high, low] = byte_digits(byte);
-            text.extend_from_slice(&[b'\\', b'x', high, low])
+/// A byte stands as itself if it prints, else by an escape.
+impl Piece for u8 {
+    ghost written = { escaped_byte };
+
+    fn push_to(&self, text: &mut Vec<u8>) -> Result<(), AllocError> {
+        match *self {
+            b'\\' => text.extend_from_slice(b"\\\\"),
+            b'\n' => text.extend_from_slice(b"\\n"),
+            byte @ 32..=126 => text.extend_from_slice(&[byte]),
+            byte => {
+                let [high, low] = byte_digits(byte);
+                text.extend_from_slice(&[b'\\', b'x', high, low])
+            }
         }
     }
 }
@@ -26,9 +29,5 @@ pub fn escaped(heap: Global, bytes: &[u8]) -> Result<Vec<u8>, AllocError>
     ensures printable { IfOk result (λ v. Printable v.items) }
     ensures tells { IfOk result (λ v. Tells v.items bytes.now) }
 {
-    let mut text = Vec::new(heap);
-    for byte in bytes {
-        push_escaped(&mut text, *byte)?;
-    }
-    Ok(text)
+    joined(heap, bytes)
 }

@@ -7,6 +7,7 @@ mod column;
 pub mod cycle;
 pub mod escape;
 pub mod lines;
+mod piece;
 pub mod word;
 
 pub use clock::{ClockRow, clock_heading, clock_row};

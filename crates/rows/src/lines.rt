@@ -1,34 +1,27 @@
 //! Registers by name, a line each.
-ghost use Rattle.std.specs.Prelude.{◌≡◌, ◌++◌, IfOk, OnOk};
-ghost use Rattle.rows.specs.Cells.{cell_text, line_text};
+ghost use Rattle.std.specs.Prelude.{◌≡◌, IfOk};
+ghost use Rattle.rows.specs.Cells.{line_text};
 ghost use Rattle.rows.specs.Rows.{visible_lines, hidden_lines};
-ghost use Rattle.rows.specs.Texts.{named};
-ghost use Rattle.std.specs.List.{flat_map};
 
-use crate::cell::{Cell, push_cell};
+use crate::cell::Cell;
+use crate::piece::{Piece, joined};
 use machine::{Registers, Visible};
 use std::alloc::{AllocError, Global};
 
-/// Writes a line behind a text: a name, a space and a cell.
-fn push_line(text: &mut Vec<u8>, name: &str, cell: Cell) -> Result<(), AllocError>
-    ensures { OnOk result (text.new.items ≡ text.old.items ++ named name.now (cell_text cell)) }
-{
-    text.extend_from_slice(name.as_bytes())?;
-    text.push(b' ')?;
-    push_cell(text, cell)?;
-    text.push(b'\n')?;
-    Ok(())
-}
+/// A cell with its name, a line of its own.
+type Line<'a> = (&'a str, Cell);
 
-/// Cells by name, a line each.
-fn in_lines(heap: Global, lines: &[(&str, Cell)]) -> Result<Vec<u8>, AllocError>
-    ensures { IfOk result (λ v. v.items ≡ flat_map line_text lines.now) }
-{
-    let mut text = Vec::new(heap);
-    for (name, cell) in lines {
-        push_line(&mut text, name, *cell)?;
+impl Piece for Line<'_> {
+    ghost written = { line_text };
+
+    fn push_to(&self, text: &mut Vec<u8>) -> Result<(), AllocError> {
+        let (name, cell) = *self;
+        text.extend_from_slice(name.as_bytes())?;
+        text.push(b' ')?;
+        cell.push_to(text)?;
+        text.push(b'\n')?;
+        Ok(())
     }
-    Ok(text)
 }
 
 /// The registers that a program can see, a line each.
@@ -48,7 +41,7 @@ pub fn visible_lines(heap: Global, visible: Visible) -> Result<Vec<u8>, AllocErr
         ("INPR", Cell::Byte(port.inpr)),
         ("OUTR", Cell::Byte(port.outr)),
     ];
-    in_lines(heap, &lines)
+    joined(heap, &lines)
 }
 
 /// The registers that no program can see, a line each.
@@ -63,5 +56,5 @@ pub fn hidden_lines(heap: Global, registers: Registers) -> Result<Vec<u8>, Alloc
         ("I", Cell::Flag(registers.i)),
         ("SC", Cell::Count(registers.sc)),
     ];
-    in_lines(heap, &lines)
+    joined(heap, &lines)
 }

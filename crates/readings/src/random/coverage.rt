@@ -3,6 +3,7 @@ use crate::rig::Outcome;
 use line::ScriptLine;
 use machine::Call;
 use std::alloc::{AllocError, Global};
+use std::fmt;
 
 /// What was tried so far.
 #[derive(Drop)]
@@ -54,13 +55,9 @@ impl Coverage {
 
     /// One cycle more, if the call was a clock that ended one; `ir` is its instruction.
     pub(crate) fn count_cycle(&mut self, call: Call, outcome: Outcome, ir: u16) -> bool {
-        let clocks = match (call, outcome) {
-            (Call::Clock, Ok(clocks)) => clocks,
-            _ => 0,
-        };
-        if clocks == 0 {
+        let (Call::Clock, Ok(clocks @ 1..)) = (call, outcome) else {
             return false;
-        }
+        };
         self.cycles = self.cycles.saturating_add(1);
         if clocks == 3 {
             self.interrupts = self.interrupts.saturating_add(1);
@@ -95,36 +92,32 @@ impl Coverage {
 
     /// How many words of opcode 7 were carried out, each counted once.
     pub(crate) fn combinations(&self) -> usize {
-        let mut count = 0usize;
-        for seen in self.seen.iter() {
-            if *seen {
-                count = count.saturating_add(1);
-            }
-        }
-        count
+        self.seen.iter().filter(|seen| **seen).count()
     }
+}
 
-    /// Tells what was tried.
-    pub(crate) fn tell(&self, rt: &HostRuntime) -> anyhow::Result<()> {
-        println!(rt;
+impl fmt::Display for Coverage {
+    fn fmt<W: fmt::Write>(&self, f: &mut fmt::Formatter<W>) -> fmt::Result {
+        writeln!(
+            f,
             "  {} cycles of {} clocks, {} of them interrupts",
             self.cycles, self.clocks, self.interrupts
         )?;
-        print!(rt; "  cycles by opcode:")?;
+        f.write_str("  cycles by opcode:")?;
         for count in self.by_opcode.iter() {
-            print!(rt; " {count}")?;
+            write!(f, " {count}")?;
         }
-        println!(rt)?;
-        println!(rt;
-            "  mark combinations: {} of 8192; panel calls: {}; refusals: {}",
-            self.combinations(),
-            self.panel_calls,
-            self.refusals
+        writeln!(f)?;
+        let combinations = self.combinations();
+        writeln!(
+            f,
+            "  mark combinations: {combinations} of 8192; panel calls: {}; refusals: {}",
+            self.panel_calls, self.refusals
         )?;
-        println!(rt;
+        write!(
+            f,
             "  characters handed over: {}; printed: {}",
             self.handed_over, self.printed
-        )?;
-        Ok(())
+        )
     }
 }

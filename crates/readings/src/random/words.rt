@@ -45,26 +45,25 @@ pub(crate) fn random_words(
     dice: &mut Dice,
     memory: u32,
 ) -> Result<Vec<u16>, AllocError> {
-    let mut words = Vec::new(heap);
-    for _ in 0..4096u32 {
-        words.push(random_word(dice, memory))?;
+    (0..4096u32)
+        .map(|_| random_word(dice, memory))
+        .collect(heap)
+}
+
+/// A character with a random wait, seldom a long one.
+fn random_cue(dice: &mut Dice) -> Cue {
+    let wait = match dice.roll(8) {
+        0 => dice.roll(1000),
+        1 | 2 => dice.roll(50),
+        _ => dice.roll(9),
+    };
+    Cue {
+        wait,
+        character: (dice.roll(256) % 256) as u8,
     }
-    Ok(words)
 }
 
 /// Up to 100 characters with random waits, some of them long.
 pub(crate) fn random_cues(heap: Global, dice: &mut Dice) -> Result<Vec<Cue>, AllocError> {
-    let mut cues = Vec::new(heap);
-    for _ in 0..dice.roll(100) {
-        let wait = match dice.roll(8) {
-            0 => dice.roll(1000),
-            1 | 2 => dice.roll(50),
-            _ => dice.roll(9),
-        };
-        cues.push(Cue {
-            wait,
-            character: (dice.roll(256) % 256) as u8,
-        })?;
-    }
-    Ok(cues)
+    (0..dice.roll(100)).map(|_| random_cue(dice)).collect(heap)
 }

@@ -3,7 +3,7 @@ use crate::rig::Rig;
 use crate::rig::difference::{Bench, Difference};
 use crate::rig::outcome::Outcome;
 use crate::second::Register::*;
-use crate::second::{EVERY_REGISTER, Numbers, Register};
+use crate::second::{Numbers, Register};
 use machine::{Port, Registers, Visible};
 use memory::Memory;
 
@@ -24,58 +24,56 @@ fn put_port(numbers: &mut Numbers, port: Port) {
     numbers.put(Fgo, u32::from(port.fgo));
 }
 
-/// The registers of the clock bench as plain numbers.
-fn clocked_numbers(registers: Registers) -> Numbers {
-    let mut numbers = Numbers::zero();
-    numbers.put(Ar, u32::from(registers.ar));
-    numbers.put(Pc, u32::from(registers.pc));
-    numbers.put(Dr, u32::from(registers.dr));
-    numbers.put(Ac, u32::from(registers.ac));
-    numbers.put(Ir, u32::from(registers.ir));
-    numbers.put(Tr, u32::from(registers.tr));
-    numbers.put(Sc, u32::from(registers.sc));
-    numbers.put(E, u32::from(registers.e));
-    numbers.put(I, u32::from(registers.i));
-    numbers.put(R, u32::from(registers.r));
-    numbers.put(S, u32::from(registers.s));
-    numbers.put(Ien, u32::from(registers.ien));
-    put_port(&mut numbers, registers.port);
-    numbers
-}
-
-/// The registers of the instruction bench as plain numbers.
-fn visible_numbers(visible: Visible) -> Numbers {
-    let mut numbers = Numbers::zero();
-    numbers.put(Pc, u32::from(visible.pc));
-    numbers.put(Ac, u32::from(visible.ac));
-    numbers.put(E, u32::from(visible.e));
-    numbers.put(R, u32::from(visible.r));
-    numbers.put(S, u32::from(visible.s));
-    numbers.put(Ien, u32::from(visible.ien));
-    put_port(&mut numbers, visible.port);
-    numbers
-}
-
-/// Whether a program can see a register.
-pub(crate) fn is_visible(register: Register) -> bool {
-    match register {
-        Ar | Dr | Ir | Tr | Sc | I => false,
-        _ => true,
+impl From<Registers> for Numbers {
+    /// The registers of the clock bench as plain numbers.
+    fn from(registers: Registers) -> Numbers {
+        let mut numbers = Numbers::default();
+        numbers.put(Ar, u32::from(registers.ar));
+        numbers.put(Pc, u32::from(registers.pc));
+        numbers.put(Dr, u32::from(registers.dr));
+        numbers.put(Ac, u32::from(registers.ac));
+        numbers.put(Ir, u32::from(registers.ir));
+        numbers.put(Tr, u32::from(registers.tr));
+        numbers.put(Sc, u32::from(registers.sc));
+        numbers.put(E, u32::from(registers.e));
+        numbers.put(I, u32::from(registers.i));
+        numbers.put(R, u32::from(registers.r));
+        numbers.put(S, u32::from(registers.s));
+        numbers.put(Ien, u32::from(registers.ien));
+        put_port(&mut numbers, registers.port);
+        numbers
     }
 }
 
-/// All registers, or those that a program can see.
-fn registers(
+impl From<Visible> for Numbers {
+    /// The registers of the instruction bench as plain numbers.
+    fn from(visible: Visible) -> Numbers {
+        let mut numbers = Numbers::default();
+        numbers.put(Pc, u32::from(visible.pc));
+        numbers.put(Ac, u32::from(visible.ac));
+        numbers.put(E, u32::from(visible.e));
+        numbers.put(R, u32::from(visible.r));
+        numbers.put(S, u32::from(visible.s));
+        numbers.put(Ien, u32::from(visible.ien));
+        put_port(&mut numbers, visible.port);
+        numbers
+    }
+}
+
+/// The registers that are meant.
+fn registers<F: Fn(Register) -> bool>(
     bench: Bench,
     ours: &Numbers,
     theirs: &Numbers,
-    every: bool,
-) -> Result<(), Difference> {
-    for (register, name, _) in EVERY_REGISTER.iter() {
-        let mine = ours.get(*register);
-        let other = theirs.get(*register);
-        if (every || is_visible(*register)) && mine != other {
-            return Err(Difference::Register(bench, name, mine, other));
+    meant: F,
+) -> Result<(), Difference>
+    requires { F.IsAlwaysCallable meant }
+{
+    for register in Register::ALL {
+        let mine = ours.get(register);
+        let other = theirs.get(register);
+        if meant(register) && mine != other {
+            return Err(Difference::Register(bench, register, mine, other));
         }
     }
     Ok(())
@@ -93,12 +91,12 @@ fn word(bench: Bench, address: u16, ours: u32, theirs: u32) -> Result<(), Differ
 impl Rig {
     /// The registers of the clock bench.
     pub(crate) fn clock_numbers(&self) -> Numbers {
-        clocked_numbers(self.computer.registers())
+        Numbers::from(self.computer.registers())
     }
 
     /// The registers of the instruction bench.
     pub(crate) fn instruction_numbers(&self) -> Numbers {
-        visible_numbers(self.twin.visible())
+        Numbers::from(self.twin.visible())
     }
 
     /// After each call: every register of the clock bench.
@@ -107,7 +105,7 @@ impl Rig {
             Bench::Clock,
             &self.clock_numbers(),
             &self.by_clocks.numbers,
-            true,
+            |_| true,
         )
     }
 
@@ -128,12 +126,14 @@ impl Rig {
     /// Between cycles: what a program can see on all four, every word and every printed character.
     pub(crate) fn compare_whole(&self) -> Result<(), Difference> {
         let theirs = self.by_cycles.numbers;
-        registers(Bench::Clock, &self.clock_numbers(), &theirs, false)?;
+        registers(Bench::Clock, &self.clock_numbers(), &theirs, |register| {
+            register.is_visible()
+        })?;
         registers(
             Bench::Instruction,
             &self.instruction_numbers(),
             &theirs,
-            false,
+            |register| register.is_visible(),
         )?;
         self.compare_words()?;
         if !self.by_clocks.teletype.shows(self.line.printed()) {

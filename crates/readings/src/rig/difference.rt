@@ -1,5 +1,6 @@
 //! What is not the same on a bench and on the second simulator.
 use crate::rig::outcome::Outcome;
+use crate::second::Register;
 use std::fmt;
 
 /// Which bench.
@@ -13,7 +14,7 @@ pub enum Bench {
 #[derive(Clone, Copy, Debug)]
 pub enum Difference {
     Outcome(Bench, Outcome, Outcome),
-    Register(Bench, &'static str, u32, u32),
+    Register(Bench, Register, u32, u32),
     Word(Bench, u16, u32, u32),
     Printed(Bench),
 }
@@ -26,7 +27,7 @@ impl fmt::Display for Shown {
     fn fmt<W: fmt::Write>(&self, f: &mut fmt::Formatter<W>) -> fmt::Result {
         match self.0 {
             Ok(answer) => write!(f, "answered {answer}"),
-            Err(number) => write!(f, "refused {number}"),
+            Err(refused) => write!(f, "{refused}"),
         }
     }
 }
@@ -48,7 +49,8 @@ impl fmt::Display for Difference {
                 let theirs = Shown(theirs);
                 write!(f, "the {bench} {ours}, the second simulator {theirs}")
             }
-            Difference::Register(bench, name, ours, theirs) => {
+            Difference::Register(bench, register, ours, theirs) => {
+                let name = register.name();
                 write!(
                     f,
                     "{name} is {ours:X} on the {bench}, {theirs:X} on the second simulator"

@@ -1,5 +1,6 @@
 //! The second simulator by whole instructions.
 use crate::second::Second;
+use crate::second::refusal::Refusal;
 use crate::second::register::Register;
 
 /// An instruction that names a place in memory.
@@ -16,16 +17,19 @@ enum Reference {
 
 use self::Reference::*;
 
-/// The seven, by their opcodes, with their clocks.
-static REFERENCES: [(Reference, u32); 7] = [
-    (And, 6),
-    (Add, 6),
-    (Lda, 6),
-    (Sta, 5),
-    (Bun, 5),
-    (Bsa, 6),
-    (Isz, 7),
-];
+impl Reference {
+    /// The seven, by their opcodes.
+    const BY_OPCODE: [Reference; 7] = [And, Add, Lda, Sta, Bun, Bsa, Isz];
+
+    /// The clocks that its cycle takes.
+    fn clocks(self) -> u32 {
+        match self {
+            Sta | Bun => 5,
+            And | Add | Lda | Bsa => 6,
+            Isz => 7,
+        }
+    }
+}
 
 impl Second {
     /// Puts one more into PC.
@@ -93,17 +97,16 @@ impl Second {
     /// An instruction but for its last exchange.
     fn instruction(&mut self) -> u32 {
         let word = self.word(self.numbers.get(Register::Pc));
-        let named = REFERENCES.get((word / 4096 % 8) as usize).copied();
-        let clocks = match named {
-            Some((_, clocks)) => clocks,
-            None => 4,
-        };
+        let named = Reference::BY_OPCODE
+            .get((word / 4096 % 8) as usize)
+            .copied();
+        let clocks = named.map_or(4, |reference| reference.clocks());
         self.exchanges(clocks.saturating_sub(1));
         let flags = self.numbers.up(Register::Fgi) || self.numbers.up(Register::Fgo);
         let requested = self.numbers.up(Register::Ien) && flags;
         self.step();
         match named {
-            Some((reference, _)) => {
+            Some(reference) => {
                 let place = self.place(word);
                 self.refer(reference, place);
             }
@@ -115,8 +118,8 @@ impl Second {
         clocks
     }
 
-    /// One cycle: the interrupt if R is up, else the instruction at PC. Answers its clocks; refuses by number.
-    pub(crate) fn cycle(&mut self) -> Result<u32, u32> {
+    /// One cycle: the interrupt if R is up, else the instruction at PC. Answers its clocks.
+    pub(crate) fn cycle(&mut self) -> Result<u32, Refusal> {
         self.ready()?;
         let clocks = if self.numbers.up(Register::R) {
             self.interrupt()

@@ -29,7 +29,7 @@ enum Mark {
 
 use self::Mark::*;
 
-/// The eighteen, by the word that has this mark alone.
+/// The eighteen, by the word that has this mark alone: the textbook's table.
 static MARKS: [(Mark, u32); 18] = [
     (Cla, 0x7800),
     (Cle, 0x7400),
@@ -58,7 +58,7 @@ fn is_marked(word: u32, code: u32) -> bool {
 }
 
 /// All that the marks of a word ask for.
-#[derive(Clone, Copy)]
+#[derive(Clone, Copy, Default)]
 struct Asked {
     ac: Merge,
     e: Merge,
@@ -66,34 +66,36 @@ struct Asked {
     skip: bool,
 }
 
-/// One mark: what it asks of AC, E, IEN and PC, as the registers stood before.
-fn ask(mark: Mark, n: &Numbers, asked: &mut Asked) {
-    let ac = n.get(Register::Ac);
-    let e = n.get(Register::E);
-    match mark {
-        Cla => asked.ac.clear(),
-        Cle => asked.e.clear(),
-        Cma => asked.ac.load(ac ^ 0xFFFF),
-        Cme => asked.e.load(e ^ 1),
-        Cir => {
-            asked.ac.load(ac / 2 | if e == 1 { 0x8000 } else { 0 });
-            asked.e.load(ac % 2);
+impl Asked {
+    /// One mark more: what it asks of AC, E, IEN and PC, as the registers stood before.
+    fn ask(&mut self, mark: Mark, n: &Numbers) {
+        let ac = n.get(Register::Ac);
+        let e = n.get(Register::E);
+        match mark {
+            Cla => self.ac.clear(),
+            Cle => self.e.clear(),
+            Cma => self.ac.load(ac ^ 0xFFFF),
+            Cme => self.e.load(e ^ 1),
+            Cir => {
+                self.ac.load(ac / 2 | if e == 1 { 0x8000 } else { 0 });
+                self.e.load(ac % 2);
+            }
+            Cil => {
+                self.ac.load(ac % 0x8000 * 2 | e);
+                self.e.load(ac / 0x8000);
+            }
+            Inc => self.ac.raise(),
+            Spa => self.skip |= ac < 0x8000,
+            Sna => self.skip |= ac >= 0x8000,
+            Sza => self.skip |= ac == 0,
+            Sze => self.skip |= e == 0,
+            Ski => self.skip |= n.up(Register::Fgi),
+            Sko => self.skip |= n.up(Register::Fgo),
+            Ion => self.ien.load(1),
+            Iof => self.ien.clear(),
+            Inp => self.ac.load(ac / 256 * 256 | n.get(Register::Inpr)),
+            Hlt | Out => {}
         }
-        Cil => {
-            asked.ac.load(ac % 0x8000 * 2 | e);
-            asked.e.load(ac / 0x8000);
-        }
-        Inc => asked.ac.raise(),
-        Spa => asked.skip |= ac < 0x8000,
-        Sna => asked.skip |= ac >= 0x8000,
-        Sza => asked.skip |= ac == 0,
-        Sze => asked.skip |= e == 0,
-        Ski => asked.skip |= n.up(Register::Fgi),
-        Sko => asked.skip |= n.up(Register::Fgo),
-        Ion => asked.ien.load(1),
-        Iof => asked.ien.clear(),
-        Inp => asked.ac.load(ac / 256 * 256 | n.get(Register::Inpr)),
-        Hlt | Out => {}
     }
 }
 
@@ -101,15 +103,10 @@ impl Second {
     /// Carries out all marks of a word together.
     pub(crate) fn mark(&mut self, word: u32) {
         let before = self.numbers;
-        let mut asked = Asked {
-            ac: Merge::new(),
-            e: Merge::new(),
-            ien: Merge::new(),
-            skip: false,
-        };
+        let mut asked = Asked::default();
         for (mark, code) in MARKS.iter() {
             if is_marked(word, *code) {
-                ask(*mark, &before, &mut asked);
+                asked.ask(*mark, &before);
                 match mark {
                     Hlt => self.numbers.lower(Register::S),
                     Inp => self.numbers.lower(Register::Fgi),

@@ -2,26 +2,15 @@
 ghost use Rattle.std.specs.Prelude.{◌<◌};
 
 /// All that is asked of a register at one time.
-#[derive(Clone, Copy, Debug)]
+#[derive(Clone, Copy, Debug, Default)]
 pub struct Merge {
     cleared: bool,
     raised: bool,
-    loaded: bool,
-    /// The numbers to load, joined by OR.
-    load: u32,
+    /// The numbers to load, joined by OR, if there is one.
+    load: Option<u32>,
 }
 
 impl Merge {
-    /// Nothing is asked yet.
-    pub(crate) fn new() -> Merge {
-        Merge {
-            cleared: false,
-            raised: false,
-            loaded: false,
-            load: 0,
-        }
-    }
-
     pub(crate) fn clear(&mut self) {
         self.cleared = true;
     }
@@ -31,8 +20,7 @@ impl Merge {
     }
 
     pub(crate) fn load(&mut self, number: u32) {
-        self.loaded = true;
-        self.load |= number;
+        self.load = Some(self.load.unwrap_or(0) | number);
     }
 
     /// What a register of that width holds then: cleared before loaded, loaded before raised by one. What does not fit is
@@ -40,8 +28,8 @@ impl Merge {
     pub(crate) fn of(&self, old: u32, bits: u32) -> u32 {
         if self.cleared {
             0
-        } else if self.loaded {
-            self.load % range(bits)
+        } else if let Some(load) = self.load {
+            load % range(bits)
         } else if self.raised {
             old.wrapping_add(1) % range(bits)
         } else {
@@ -51,7 +39,7 @@ impl Merge {
 
     /// What a flip-flop holds then that turns over when it is loaded and cleared at once.
     pub(crate) fn of_turning(&self, old: u32) -> u32 {
-        if self.cleared && self.loaded {
+        if self.cleared && self.load.is_some() {
             u32::from(old == 0)
         } else {
             self.of(old, 1)

@@ -1,16 +1,11 @@
 //! What the registers hold.
 use crate::second::register::Register;
 
-/// A plain number in each register.
-#[derive(Clone, Copy, Debug)]
+/// A plain number in each register, zero at first.
+#[derive(Clone, Copy, Debug, Default)]
 pub struct Numbers([u32; 16]);
 
 impl Numbers {
-    /// Zero everywhere.
-    pub(crate) fn zero() -> Numbers {
-        Numbers([0; 16])
-    }
-
     pub(crate) fn get(&self, register: Register) -> u32 {
         self.0[register as usize]
     }

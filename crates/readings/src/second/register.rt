@@ -23,22 +23,46 @@ pub enum Register {
 
 use self::Register::*;
 
-/// Every register, with its name and its width in bits.
-pub(crate) static EVERY_REGISTER: [(Register, &str, u32); 16] = [
-    (Ar, "AR", 12),
-    (Pc, "PC", 12),
-    (Dr, "DR", 16),
-    (Ac, "AC", 16),
-    (Ir, "IR", 16),
-    (Tr, "TR", 16),
-    (Inpr, "INPR", 8),
-    (Outr, "OUTR", 8),
-    (Sc, "SC", 4),
-    (E, "E", 1),
-    (I, "I", 1),
-    (R, "R", 1),
-    (S, "S", 1),
-    (Ien, "IEN", 1),
-    (Fgi, "FGI", 1),
-    (Fgo, "FGO", 1),
-];
+impl Register {
+    /// Every register.
+    pub(crate) const ALL: [Register; 16] = [
+        Ar, Pc, Dr, Ac, Ir, Tr, Inpr, Outr, Sc, E, I, R, S, Ien, Fgi, Fgo,
+    ];
+
+    pub(crate) fn name(self) -> &'static str {
+        match self {
+            Ar => "AR",
+            Pc => "PC",
+            Dr => "DR",
+            Ac => "AC",
+            Ir => "IR",
+            Tr => "TR",
+            Inpr => "INPR",
+            Outr => "OUTR",
+            Sc => "SC",
+            E => "E",
+            I => "I",
+            R => "R",
+            S => "S",
+            Ien => "IEN",
+            Fgi => "FGI",
+            Fgo => "FGO",
+        }
+    }
+
+    /// Its width in bits.
+    pub(crate) fn bits(self) -> u32 {
+        match self {
+            Dr | Ac | Ir | Tr => 16,
+            Ar | Pc => 12,
+            Inpr | Outr => 8,
+            Sc => 4,
+            E | I | R | S | Ien | Fgi | Fgo => 1,
+        }
+    }
+
+    /// Whether a program can see it.
+    pub(crate) fn is_visible(self) -> bool {
+        !matches!(self, Ar | Dr | Ir | Tr | Sc | I)
+    }
+}

@@ -1,4 +1,8 @@
 //! The second simulator's own keyboard and printer.
+ghost use Rattle.std.specs.Prelude.{◌≤◌, vec_capacity};
+
+use std::alloc::{AllocError, Global};
+use std::collections::VecDeque;
 
 /// A key, struck so many clocks after the one before it.
 #[derive(Clone, Copy, Debug)]
@@ -7,63 +11,52 @@ pub struct Key {
     pub code: u8,
 }
 
-/// A keyboard with keys still to strike, and a roll of paper.
+/// A keyboard with keys still to strike, and a roll of paper with what is printed on it.
 #[derive(Drop)]
 pub struct Teletype {
-    keys: Vec<Key>,
-    struck: usize,
+    keys: VecDeque<Key>,
     clocks: u32,
     roll: Vec<u8>,
-    printed: usize,
+    /// How many characters the roll takes; its memory is taken at the start.
+    room: usize,
+    ghost reserved: { room ≤ vec_capacity roll },
 }
 
 impl Teletype {
-    pub(crate) fn new(keys: Vec<Key>, roll: Vec<u8>) -> Teletype {
-        Teletype {
+    /// A blank roll with that room.
+    pub(crate) fn new(
+        heap: Global,
+        keys: VecDeque<Key>,
+        room: usize,
+    ) -> Result<Teletype, AllocError> {
+        Ok(Teletype {
             keys,
-            struck: 0,
             clocks: 0,
-            roll,
-            printed: 0,
-        }
+            roll: Vec::with_capacity(heap, room)?,
+            room,
+        })
     }
 
     /// One clock of the keyboard: the next key, if its time has come and the computer is free to take it.
     pub(crate) fn type_key(&mut self, free: bool) -> Option<u8> {
-        if self.clocks < 65_535 {
-            self.clocks += 1;
-        }
-        let key = *self.keys.get(self.struck)?;
-        if !free || self.clocks < key.after {
-            return None;
-        }
+        let clocks = self.clocks.saturating_add(1).min(65_535);
+        self.clocks = clocks;
+        let key = self.keys.pop_front_if(|key| free && clocks >= key.after)?;
         self.clocks = 0;
-        self.struck = self.struck.saturating_add(1);
         Some(key.code)
     }
 
     /// Prints a character, unless the roll has run out.
     pub(crate) fn print(&mut self, character: u8) -> bool {
-        match self.roll.get_mut(self.printed) {
-            Some(place) => {
-                *place = character;
-                self.printed = self.printed.saturating_add(1);
-                true
-            }
-            None => false,
+        if self.roll.len() >= self.room {
+            return false;
         }
+        self.roll.push(character).unwrap();
+        true
     }
 
     /// Whether exactly these characters are printed.
     pub(crate) fn shows(&self, characters: &[u8]) -> bool {
-        if characters.len() != self.printed {
-            return false;
-        }
-        for (ours, theirs) in self.roll.iter().zip(characters.iter()) {
-            if *ours != *theirs {
-                return false;
-            }
-        }
-        true
+        self.roll.as_slice() == characters
     }
 }

@@ -218,8 +218,8 @@ fn number(source: Source, n: &Numbers, word: u32) -> u32 {
 }
 
 /// What a register holds after the clock, by all rows that act. IEN turns over when it is raised and lowered at once.
-pub(crate) fn next(register: Register, bits: u32, before: &Numbers, word: u32) -> u32 {
-    let mut merge = Merge::new();
+pub(crate) fn next(register: Register, before: &Numbers, word: u32) -> u32 {
+    let mut merge = Merge::default();
     for (when, condition, does) in TABLE.iter() {
         if acts(*when, before) && holds(*condition, before) {
             match does {
@@ -233,18 +233,14 @@ pub(crate) fn next(register: Register, bits: u32, before: &Numbers, word: u32) -
     if register == Ien {
         merge.of_turning(before.get(Ien))
     } else {
-        merge.of(before.get(register), bits)
+        merge.of(before.get(register), register.bits())
     }
 }
 
 /// The number that the memory takes at AR, if any.
 pub(crate) fn written(before: &Numbers) -> Option<u32> {
-    for (when, _, does) in TABLE.iter() {
-        if let Write(register) = does {
-            if acts(*when, before) {
-                return Some(before.get(*register));
-            }
-        }
-    }
-    None
+    TABLE.iter().find_map(|(when, _, does)| match does {
+        Write(register) if acts(*when, before) => Some(before.get(*register)),
+        _ => None,
+    })
 }

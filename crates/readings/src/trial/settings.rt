@@ -16,27 +16,29 @@ pub(crate) fn remark(line: &str) -> Option<(&str, &str)> {
     line.strip_prefix("// ")?.split_once(' ')
 }
 
-/// One remark taken into the settings; none where it is not understood.
-fn taken<'a>(settings: Settings<'a>, word: &str, rest: &'a str) -> Option<Settings<'a>> {
-    match word {
-        "from" => {
-            let from = Some(hexadecimal(rest.as_bytes())?);
-            Some(Settings { from, ..settings })
+impl<'a> Settings<'a> {
+    /// These settings with one remark more; none where it is not understood.
+    fn with(self, word: &str, rest: &'a str) -> Option<Settings<'a>> {
+        match word {
+            "from" => {
+                let from = Some(hexadecimal(rest.as_bytes())?);
+                Some(Settings { from, ..self })
+            }
+            "cycles" => {
+                let cycles = rest.parse::<u32>().ok()?;
+                Some(Settings { cycles, ..self })
+            }
+            "input" => Some(Settings {
+                input: rest,
+                ..self
+            }),
+            "wait" => {
+                let wait = rest.parse::<u16>().ok()?;
+                Some(Settings { wait, ..self })
+            }
+            "expect" => Some(self),
+            _ => None,
         }
-        "cycles" => {
-            let cycles = rest.parse::<u32>().ok()?;
-            Some(Settings { cycles, ..settings })
-        }
-        "input" => Some(Settings {
-            input: rest,
-            ..settings
-        }),
-        "wait" => {
-            let wait = rest.parse::<u16>().ok()?;
-            Some(Settings { wait, ..settings })
-        }
-        "expect" => Some(settings),
-        _ => None,
     }
 }
 
@@ -50,10 +52,7 @@ pub(crate) fn read_settings(text: &str) -> Result<Settings<'_>, &str> {
     };
     for line in text.lines() {
         if let Some((word, rest)) = remark(line) {
-            match taken(settings, word, rest) {
-                Some(more) => settings = more,
-                None => return Err(line),
-            }
+            settings = settings.with(word, rest).ok_or(line)?;
         }
     }
     Ok(settings)

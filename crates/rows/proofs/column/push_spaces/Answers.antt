@@ -1,10 +1,9 @@
-use Rattle.std.proofs.Common.{ℕ, List, [], ◌∷◌, ◌++◌, replicate, vec_items, ap, ◌∙◌, append_assoc}
+use Rattle.std.proofs.Common.{◌≡◌, ℕ, rules}
+use Rattle.std.proofs.lemmas.Iterator.Adapters.{items_from_extend, YieldsList-from_repeat_n}
 use Rattle.rows.proofs.column.push_spaces.Goals as goal
-use Rattle.std.proofs.lemmas.List.{replicate_more}
-use Rattle.std.proofs.lemmas.Slice.{pushed}
 
-pub loop-preserved : goal.loop-preserved
-loop-preserved c =
-    pushed (32 ∷ []) c.loop.invariant c.in_ok-push.was c.push.ensures.items
-    ∙ append_assoc (vec_items c.args.text.now) (replicate c.loop.counter 32) (32 ∷ [])
-    ∙ ap (λ (l : List ℕ). vec_items c.args.text.now ++ l) (replicate_more c.loop.counter 32)
+pub returns : goal.returns
+returns c =
+    let spaces = YieldsList-from_repeat_n (λ (x y : ℕ). y ≡ x) c.args.count 32 c.repeat_n.ensures.count c.repeat_n.ensures.item (λ _ e. e) in
+    let h = items_from_extend c.extend.result c.extend.ensures.ran spaces in
+    search rules

@@ -1,5 +1,0 @@
-use Rattle.std.proofs.Common.{◌≡◌, ◌++◌, replicate, vec_items}
-use Rattle.rows.proofs.column.push_spaces.Given as goal
-
-abbrev pub invariant-loop : goal.invariant-loop
-invariant-loop l = vec_items l.text ≡ vec_items l.initial.text ++ replicate l.counter 32
