@@ -6,10 +6,11 @@ mod outcome;
 use crate::second;
 use crate::second::{Key, Second, Teletype};
 use clock_bench::ClockComputer;
+use cosimulation::{is_inside, is_struck};
 use cycle_bench::CycleComputer;
 pub(crate) use difference::{Bench, Difference};
 use line::{Cue, ScriptLine};
-use machine::Call;
+use machine::{Call, Computer, Refusal};
 use memory::{ImageMemory, WordMemory};
 pub(crate) use outcome::{Outcome, Refused};
 use std::alloc::{AllocError, Global};
@@ -78,6 +79,11 @@ fn ask<F: FnOnce(&mut Second) -> Result<u32, second::Refusal>>(
     Ok(0)
 }
 
+/// What a bench returned.
+fn told(returned: Result<u16, Refusal>) -> Outcome {
+    Ok(u32::from(returned?))
+}
+
 impl Rig {
     /// New computers over these words, with these characters to come and room for so many to be printed.
     pub(crate) fn new(
@@ -101,18 +107,18 @@ impl Rig {
 
     /// A call on the clock bench.
     pub(crate) fn on_clock_bench(&mut self, call: Call) -> Outcome {
-        let answer = self
-            .computer
-            .perform(call, &mut self.memory, &mut self.line)?;
-        Ok(u32::from(answer))
+        told(
+            self.computer
+                .perform(call, &mut self.memory, &mut self.line),
+        )
     }
 
     /// A call on the instruction bench.
     pub(crate) fn on_instruction_bench(&mut self, call: Call) -> Outcome {
-        let answer = self
-            .twin
-            .perform(call, &mut self.twin_memory, &mut self.twin_line)?;
-        Ok(u32::from(answer))
+        told(
+            self.twin
+                .perform(call, &mut self.twin_memory, &mut self.twin_line),
+        )
     }
 
     /// A call on the second simulator, by clocks.
@@ -120,27 +126,23 @@ impl Rig {
         ask(&mut self.by_clocks, call, |board| board.clock())
     }
 
-    /// A call on the boards that are clocked, and on those that make whole cycles unless it is a clock that ended no cycle or
-    /// an examine made inside one. Everything is compared.
+    /// A call on the boards that are clocked, and on those that make whole cycles unless the short list leaves it out.
+    /// Everything is compared.
     pub(crate) fn call(&mut self, call: Call) -> Result<Outcome, Difference> {
-        let ours = self.on_clock_bench(call);
+        let returned = self
+            .computer
+            .perform(call, &mut self.memory, &mut self.line);
+        let ours = told(returned);
         let second = self.on_second(call);
         compare::outcomes(Bench::Clock, ours, second)?;
         self.compare_clocked()?;
-        let struck = match call {
-            Call::Clock => ours == Ok(0),
-            Call::Examine(_) => self.inside,
-            _ => false,
-        };
-        if !struck {
+        if !is_struck(self.inside, call, returned) {
             let twin = self.on_instruction_bench(call);
             compare::outcomes(Bench::Instruction, twin, ours)?;
             let second = ask(&mut self.by_cycles, call, |board| board.cycle());
             compare::outcomes(Bench::Instruction, twin, second)?;
         }
-        if let (Call::Clock, Ok(clocks)) = (call, ours) {
-            self.inside = clocks == 0;
-        }
+        self.inside = is_inside(self.inside, call, returned);
         if !self.inside {
             self.compare_whole()?;
         }
