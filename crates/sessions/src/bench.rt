@@ -11,7 +11,7 @@ use std::alloc::{AllocError, Global};
 /// A bench on which a session can be made. A step is a clock, or a whole cycle.
 pub trait Bench: Computer + Drop {
     /// What is known of a step before it is made.
-    type Step: Copy + Drop;
+    type Step: Copy + Default + Drop;
 
     /// A new computer.
     fn fresh() -> Self;
@@ -19,11 +19,14 @@ pub trait Bench: Computer + Drop {
     /// The registers that a program can see.
     fn seen(&self) -> Visible;
 
+    /// Whether S is up.
+    fn runs(&self) -> bool;
+
     /// All registers, if it is clocked.
     fn all(&self) -> Option<Registers>;
 
-    /// The step that comes next, behind the last one.
-    fn next_step(&self, memory: &ImageMemory, last: Option<Self::Step>) -> Self::Step;
+    /// Notes the step that comes next in place of the last one.
+    fn note(&self, memory: &ImageMemory, step: &mut Self::Step);
 
     /// Where the cycle of a step began.
     fn began(step: Self::Step) -> u16;
@@ -39,7 +42,7 @@ pub trait Bench: Computer + Drop {
 }
 
 /// A clock: its timing signal, where its cycle began, and whether that is an interrupt.
-#[derive(Clone, Copy, Debug)]
+#[derive(Clone, Copy, Debug, Default)]
 pub struct Clock {
     time: u8,
     began: u16,
@@ -68,19 +71,20 @@ impl Bench for ClockComputer {
         self.visible()
     }
 
+    fn runs(&self) -> bool {
+        self.registers().s
+    }
+
     fn all(&self) -> Option<Registers> {
         Some(self.registers())
     }
 
-    fn next_step(&self, _: &ImageMemory, last: Option<Clock>) -> Clock {
+    fn note(&self, _: &ImageMemory, step: &mut Clock) {
         let Registers { sc, pc, r, .. } = self.registers();
-        match last {
-            Some(clock) if sc > 0 => Clock { time: sc, ..clock },
-            _ => Clock {
-                time: sc,
-                began: pc,
-                interrupt: r,
-            },
+        step.time = sc;
+        if sc == 0 {
+            step.began = pc;
+            step.interrupt = r;
         }
     }
 
@@ -108,7 +112,7 @@ impl Bench for ClockComputer {
 }
 
 /// A cycle: where its instruction stands, and the instruction, unless it is an interrupt.
-#[derive(Clone, Copy, Debug)]
+#[derive(Clone, Copy, Debug, Default)]
 pub struct Cycle {
     at: u16,
     word: Option<u16>,
@@ -125,16 +129,18 @@ impl Bench for CycleComputer {
         self.visible()
     }
 
+    fn runs(&self) -> bool {
+        self.visible().s
+    }
+
     fn all(&self) -> Option<Registers> {
         None
     }
 
-    fn next_step(&self, memory: &ImageMemory, _: Option<Cycle>) -> Cycle {
+    fn note(&self, memory: &ImageMemory, step: &mut Cycle) {
         let Visible { pc, r, .. } = self.visible();
-        Cycle {
-            at: pc,
-            word: if r { None } else { Some(memory.fetch(pc)) },
-        }
+        step.at = pc;
+        step.word = if r { None } else { Some(memory.fetch(pc)) };
     }
 
     fn began(step: Cycle) -> u16 {

@@ -16,7 +16,8 @@ pub struct Run<B: Bench> {
     memory: ImageMemory,
     line: ScriptLine,
     pub counts: Counts,
-    last: Option<B::Step>,
+    /// The step that was made last.
+    step: B::Step,
 }
 
 impl<B: Bench> Run<B> {
@@ -30,7 +31,7 @@ impl<B: Bench> Run<B> {
             memory: setup.memory()?,
             line: setup.line(rt)?,
             counts: Counts::nothing(),
-            last: None,
+            step: B::Step::default(),
         })
     }
 
@@ -51,15 +52,14 @@ impl<B: Bench> Run<B> {
         if self.counts.reach(limit) {
             return Some(Stop::Budget);
         }
-        let step = self.computer.next_step(&self.memory, self.last);
-        self.last = Some(step);
+        self.computer.note(&self.memory, &mut self.step);
         if let Ok(answer) = self.computer.clock(&mut self.memory, &mut self.line) {
             self.counts = B::counted(self.counts, answer);
         }
-        if self.computer.seen().s {
+        if self.computer.runs() {
             None
         } else {
-            Some(Stop::Halted(B::began(step)))
+            Some(Stop::Halted(B::began(self.step)))
         }
     }
 
@@ -86,9 +86,8 @@ impl<B: Bench> Run<B> {
                 break;
             }
             let stop = self.step(limit);
-            if let Some(step) = self.last {
-                say_line(rt, self.computer.row(rt.alloc(), step)?.as_slice())?;
-            }
+            let row = self.computer.row(rt.alloc(), self.step)?;
+            say_line(rt, row.as_slice())?;
             if let Some(stop) = stop {
                 return Ok(stop);
             }
