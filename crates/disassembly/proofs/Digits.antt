@@ -1,6 +1,5 @@
 -- Four digits are read as their number.
-use Rattle.std.proofs.Common.{◌≡◌, ℕ, ◌+◌, ◌*◌, ◌/◌, ◌%◌, ◌<◌, true, false, cond, ltb, [], ◌∷◌, Some, sym, ap, ◌∙◌, mod-lt, mod-eq_of_lt, div-add-mod', arith, lit<}
-use native.Mathlib.Nat.{div-div-eq-div-mul}
+use Rattle.std.proofs.Common.{◌≡◌, ℕ, ◌+◌, ◌*◌, ◌/◌, ◌%◌, ◌<◌, true, false, cond, ltb, [], ◌∷◌, Some, ap, ◌∙◌, mod-lt, arith, lit<}
 use Rattle.std.proofs.lemmas.Bool.Decides.{nat_tests}
 use Rattle.fields.specs.Fields.{plain, ends}
 use Rattle.fields.specs.Numbers.{digit_in, number_in}
@@ -35,14 +34,7 @@ module _ (a b c d p q r s : ℕ) where
   read ea eb ec ed = rw (ea, eb, ec, ed)
 
 value : (n : ℕ) → n < 65536 → n / 4096 % 16 * 4096 + (n / 256 % 16 * 256 + (n / 16 % 16 * 16 + (n % 16 * 1 + 0))) ≡ n
-value n h =
-    let a : n / 16 / 16 ≡ n / 256 = div-div-eq-div-mul n 16 16 in
-    let b : n / 256 / 16 ≡ n / 4096 = div-div-eq-div-mul n 256 16 in
-    let p : n / 4096 % 16 ≡ n / 4096 = mod-eq_of_lt (omega arith) in
-    let q : n / 4096 * 16 + n / 256 % 16 ≡ n / 256 = ap (λ x. x * 16 + n / 256 % 16) (sym b) ∙ div-add-mod' (n / 256) 16 in
-    let r : n / 256 * 16 + n / 16 % 16 ≡ n / 16 = ap (λ x. x * 16 + n / 16 % 16) (sym a) ∙ div-add-mod' (n / 16) 16 in
-    let s : n / 16 * 16 + n % 16 ≡ n = div-add-mod' n 16 in
-    omega arith
+value n h = omega arith
 
 pub number_read : (n : ℕ) → n < 65536 → number_in 16 4 (word_digits n) ≡ Some n
 number_read n h =

@@ -1,5 +1,5 @@
 -- A name that is found has three letters, and is read as the number that it is found for.
-use Rattle.std.proofs.Common.{◌≡◌, ℕ, Bool, true, false, cond, ◌&&◌, eqb, List, [], ◌∷◌, length, get_or, Some, None, Option, sym, refl, subst, arith, eqb-true}
+use Rattle.std.proofs.Common.{◌≡◌, ℕ, Bool, true, false, cond, ◌&&◌, eqb, List, [], ◌∷◌, length, get_or, Some, None, Option, refl, subst, arith, eqb-true}
 use Rattle.fields.proofs.Outcomes.{both_true}
 use Rattle.fields.specs.Fields.{letter}
 use Rattle.fields.specs.Outcomes.{if_some}
@@ -7,7 +7,6 @@ use Rattle.statements.specs.declared.statement.Operation.{Operation}
 use Rattle.statements.specs.Words.{operation_of, plain_word}
 use Rattle.sheets.specs.Laying.{opcode}
 use Rattle.disassembly.specs.Names.{is_number, name_for, opcode_of, operation_name, operation_names, plain_name, plain_names}
-use Rattle.disassembly.proofs.Bytes.{three}
 
 -- three letters, as a test and as a fact
 abbrev lettered : List ℕ → Bool
@@ -21,14 +20,19 @@ pub data Letters : List ℕ → Type 0 where
   letters : (a b c : ℕ) → letter a ≡ true → letter b ≡ true → letter c ≡ true → Letters (a ∷ b ∷ c ∷ [])
 
 has-letters : (w : List ℕ) → lettered w ≡ true → Letters w
-has-letters w h =
-    let p = both_true (eqb (length w) 3) _ h in
-    let q = both_true (letter (get_or w 0 0)) _ p.1 in
-    let r = both_true (letter (get_or w 1 0)) _ q.1 in
-    subst (λ (x : List ℕ). Letters x) (sym (three w (eqb-true (length w) 3 p.0))) (letters _ _ _ q.0 r.0 r.1)
+has-letters [] h = cc
+has-letters (a ∷ []) h = cc
+has-letters (a ∷ b ∷ []) h = cc
+has-letters (a ∷ b ∷ c ∷ []) h =
+    let q = both_true (letter a) _ h in
+    let r = both_true (letter b) _ q.1 in
+    letters a b c q.0 r.0 r.1
+has-letters (a ∷ b ∷ c ∷ d ∷ w) h =
+    let long = eqb-true (length (a ∷ b ∷ c ∷ d ∷ w)) 3 (both_true (eqb (length (a ∷ b ∷ c ∷ d ∷ w)) 3) _ h).0 in
+    absurd (omega arith)
 
 is-number : (n : ℕ) (o : Option ℕ) → is_number n o ≡ true → o ≡ Some n
-is-number n None h = absurd (let z : ◌≡◌ {A = ℕ} 0 1 = cc in omega arith)
+is-number n None h = cc
 is-number n (Some m) h = let e = eqb-true n m h in cc
 
 module _ (reads : List ℕ → Option ℕ) (n : ℕ) where
@@ -43,7 +47,7 @@ module _ (reads : List ℕ → Option ℕ) (n : ℕ) where
   found-by false name others x is l go h = go h
 
   found : (names : List (List ℕ)) (x : List ℕ) → all_lettered names ≡ true → name_for reads n names ≡ Some x → Found x
-  found [] x a h = absurd (let z : ◌≡◌ {A = ℕ} 0 1 = cc in omega arith)
+  found [] x a h = cc
   found (name ∷ names) x a h =
       let p = both_true (lettered name) (all_lettered names) a in
       found-by (is_number n (reads name)) name (name_for reads n names) x refl p.0 (found names x p.1) h
@@ -53,7 +57,7 @@ plain-found word name h = found plain_word word plain_names name refl h
 
 opcode-some : (o : Option Operation) (n : ℕ) → if_some o (λ op. Some (opcode op)) ≡ Some n → (op : Operation) × (o ≡ Some op) × (opcode op ≡ n)
 opcode-some (Some op) n h = (op, refl, cc)
-opcode-some None n h = absurd (let z : ◌≡◌ {A = ℕ} 0 1 = cc in omega arith)
+opcode-some None n h = cc
 
 pub operation-found : (n : ℕ) (name : List ℕ) → operation_name n ≡ Some name
     → Letters name × ((op : Operation) × (operation_of name ≡ Some op) × (opcode op ≡ n))

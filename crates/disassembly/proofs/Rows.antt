@@ -1,6 +1,5 @@
 -- Each row assembles back to its word.
-use Rattle.std.proofs.Common.{◌≡◌, ℕ, ◌+◌, ◌*◌, ◌/◌, ◌%◌, ◌<◌, Bool, true, false, cond, leb, List, [], ◌∷◌, length, Some, None, Ok, Option, sym, refl, ap, ◌∙◌, subst, mod-lt, div-add-mod', arith, lit<, length-append, leb-false, leb-true}
-use native.Mathlib.Nat.{mod-mod}
+use Rattle.std.proofs.Common.{◌≡◌, ℕ, ◌+◌, ◌*◌, ◌/◌, ◌%◌, ◌<◌, Bool, true, false, cond, leb, List, [], ◌∷◌, length, Some, None, Ok, Option, sym, refl, ap, ◌∙◌, subst, mod-lt, arith, lit<, length-append, leb-false, leb-true}
 use Rattle.fields.specs.Fields.{Field, name, number, letter, all_plain, fields_of}
 use Rattle.fields.specs.Fields as field
 use Rattle.statements.proofs.Grammar.{line_read}
@@ -29,8 +28,8 @@ back word text code p f l = record { code = code; read = λ line. line_read line
 
 -- the word of an instruction with its parts
 joined : (word code : ℕ) (m : Bool) → word < 65536 → code ≡ opcode_in word → leb 32768 word ≡ m → cond m 32768 0 + code * 4096 + word % 4096 % 4096 ≡ word
-joined word code true h e is = omega (arith, leb-true 32768 word is, div-add-mod' word 4096, mod-mod word 4096)
-joined word code false h e is = omega (arith, leb-false 32768 word is, div-add-mod' word 4096, mod-mod word 4096)
+joined word code true h e is = omega (arith, leb-true 32768 word is)
+joined word code false h e is = omega (arith, leb-false 32768 word is)
 
 spelled_by : (t : Bool) (v : List ℕ) (at : ℕ) → Spelled (cond t (name v at) (number v at)) v
 spelled_by true v at = by_name

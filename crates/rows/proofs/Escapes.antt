@@ -1,5 +1,5 @@
 -- What holds of escaped text: it prints, and it tells the bytes.
-use Rattle.std.proofs.Common.{◌≡◌, ℕ, ◌+◌, ◌-◌, ◌*◌, ◌/◌, ◌%◌, ◌<◌, ◌≤◌, cond, eqb, ltb, leb, List, [], ◌∷◌, ◌++◌, sym, refl, ap, ◌∙◌, mod-lt, arith, lit<, lit≤}
+use Rattle.std.proofs.Common.{◌≡◌, ℕ, ◌+◌, ◌-◌, ◌*◌, ◌/◌, ◌%◌, ◌<◌, ◌≤◌, false, cond, eqb, ltb, leb, List, [], ◌∷◌, ◌++◌, sym, refl, ap, ◌∙◌, mod-lt, arith, lit<, lit≤}
 use Rattle.digits.specs.Digits.{hex_digit, byte_digits}
 use Rattle.rows.specs.Escapes.{prints, escaped_byte, escaped_of, Printable}
 use Rattle.std.proofs.ByRecursion.{All-append}
@@ -13,15 +13,28 @@ Prints byte = (32 ≤ byte) × (byte ≤ 126)
 digit-prints : (d : ℕ) → d < 16 → Prints (hex_digit d)
 digit-prints d h = grind (arith, nat_tests)
 
+-- What holds of each way to write a byte holds of the way that is taken.
+escaped-cases : (byte : ℕ) (P : List ℕ → Type 0) → (byte ≡ 92 → P (92 ∷ 92 ∷ [])) → (byte ≡ 10 → P (92 ∷ 110 ∷ []))
+    → (eqb byte 92 ≡ false → Prints byte → P (byte ∷ [])) → P (92 ∷ 120 ∷ byte_digits byte) → P (escaped_byte byte)
+escaped-cases byte P backslash newline itself hex =
+    cond_both (eqb byte 92) (92 ∷ 92 ∷ []) _ P
+    (λ e. backslash (eqb-true byte 92 e))
+    (λ other. cond_both (eqb byte 10) (92 ∷ 110 ∷ []) _ P
+    (λ e. newline (eqb-true byte 10 e))
+    (λ _. cond_both (prints byte) (byte ∷ []) (92 ∷ 120 ∷ byte_digits byte) P
+    (λ e. let p = and_parts (leb 32 byte) (leb byte 126) e in itself other (leb-true 32 byte p.0, leb-true byte 126 p.1))
+    (λ _. hex)))
+
 byte-printable : (byte : ℕ) → Printable (escaped_byte byte)
 byte-printable byte =
-    cond_both (eqb byte 92) (92 ∷ 92 ∷ []) _ Printable
-    (λ _. ((lit≤ tt, lit≤ tt), ((lit≤ tt, lit≤ tt), tt)))
-    (λ _. cond_both (eqb byte 10) (92 ∷ 110 ∷ []) _ Printable
-    (λ _. ((lit≤ tt, lit≤ tt), ((lit≤ tt, lit≤ tt), tt)))
-    (λ _. cond_both (prints byte) (byte ∷ []) (92 ∷ 120 ∷ byte_digits byte) Printable
-    (λ e. let p = and_parts (leb 32 byte) (leb byte 126) e in ((leb-true 32 byte p.0, leb-true byte 126 p.1), tt))
-    (λ _. ((lit≤ tt, lit≤ tt), ((lit≤ tt, lit≤ tt), (digit-prints (byte / 16 % 16) (mod-lt (byte / 16) (lit< tt)), (digit-prints (byte % 16) (mod-lt byte (lit< tt)), tt)))))))
+    let backslash : Prints 92 = (lit≤ tt, lit≤ tt) in
+    let high = digit-prints (byte / 16 % 16) (mod-lt (byte / 16) (lit< tt)) in
+    let low = digit-prints (byte % 16) (mod-lt byte (lit< tt)) in
+    escaped-cases byte Printable
+    (λ _. (backslash, (backslash, tt)))
+    (λ _. (backslash, ((lit≤ tt, lit≤ tt), tt)))
+    (λ _ p. (p, tt))
+    (backslash, ((lit≤ tt, lit≤ tt), (high, (low, tt))))
 
 pub escaped-printable : (bytes : List ℕ) → Printable (escaped_of bytes)
 escaped-printable [] = tt
@@ -58,13 +71,11 @@ read-escaped : (byte : ℕ) (rest : List ℕ) → byte < 256 → read_byte (esca
 read-escaped byte rest h =
     let Reads : List ℕ → Type 0 = λ text. read_byte (text ++ rest) ≡ (byte, rest) in
     let with_rest : ℕ → ℕ × List ℕ = λ n. (n, rest) in
-    cond_both (eqb byte 92) (92 ∷ 92 ∷ []) _ Reads
-    (λ e. ap with_rest (sym (eqb-true byte 92 e)))
-    (λ no-backslash. cond_both (eqb byte 10) (92 ∷ 110 ∷ []) _ Reads
-    (λ e. ap with_rest (sym (eqb-true byte 10 e)))
-    (λ _. cond_both (prints byte) (byte ∷ []) (92 ∷ 120 ∷ byte_digits byte) Reads
-    (λ _. cond-false (eqb byte 92) (read_escape rest) (byte, rest) no-backslash)
-    (λ _. ap with_rest (value-byte byte h))))
+    escaped-cases byte Reads
+    (λ e. ap with_rest (sym e))
+    (λ e. ap with_rest (sym e))
+    (λ other _. cond-false (eqb byte 92) (read_escape rest) (byte, rest) other)
+    (ap with_rest (value-byte byte h))
 
 abbrev Bytes : List ℕ → Type 0
 Bytes bytes = AllByRecursion (λ byte. byte < 256) bytes

@@ -29,7 +29,8 @@ enum Mark {
 
 use self::Mark::*;
 
-/// The eighteen, by the word that has this mark alone: the textbook's table.
+/// The eighteen, by the word that has this mark alone.
+// Kept as a table of pairs: it is the textbook's, and every use goes through all of it with the word beside the mark.
 static MARKS: [(Mark, u32); 18] = [
     (Cla, 0x7800),
     (Cle, 0x7400),
