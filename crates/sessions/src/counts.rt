@@ -4,6 +4,7 @@ ghost use Rattle.sessions.specs.Counting.{nothing, interrupt, cycle_counted, clo
 
 use cosimulation::Outcome;
 use options::Options;
+use std::fmt;
 
 /// Cycles unless told.
 const CYCLES: u64 = 100_000;
@@ -30,6 +31,29 @@ pub enum Stop {
     Halted(u16),
     /// By the limit.
     Budget,
+}
+
+impl fmt::Display for Counts {
+    fn fmt<W: fmt::Write>(&self, f: &mut fmt::Formatter<W>) -> fmt::Result {
+        let Counts {
+            cycles,
+            clocks,
+            interrupts,
+        } = *self;
+        write!(
+            f,
+            "cycles {cycles}\nclocks {clocks}\ninterrupts {interrupts}"
+        )
+    }
+}
+
+impl fmt::Display for Stop {
+    fn fmt<W: fmt::Write>(&self, f: &mut fmt::Formatter<W>) -> fmt::Result {
+        match *self {
+            Stop::Halted(address) => write!(f, "HLT {address:03X}"),
+            Stop::Budget => f.write_str("budget"),
+        }
+    }
 }
 
 /// 1 for an interrupt cycle, which is the one of three clocks.
@@ -96,11 +120,10 @@ impl Counts {
 pub(crate) fn count_outcomes(outcomes: &[Outcome]) -> Counts
     ensures { result ≡ outcomes_counted nothing outcomes.now }
 {
-    let mut counts = Counts::nothing();
-    for outcome in outcomes {
-        counts = counts.with_outcome(*outcome);
-    }
-    counts
+    outcomes.iter().fold(
+        Counts::nothing(),
+        |counts, outcome| counts.with_outcome(*outcome),
+    )
 }
 
 impl Limit {

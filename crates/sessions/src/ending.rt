@@ -41,18 +41,9 @@ impl Ending {
         }
         print!(rt; "printed ")?;
         say_line(rt, escaped(rt.alloc(), self.line.printed())?.as_slice())?;
-        let Counts {
-            cycles,
-            clocks,
-            interrupts,
-        } = self.counts;
-        println!(rt; "cycles {cycles}")?;
-        println!(rt; "clocks {clocks}")?;
-        println!(rt; "interrupts {interrupts}")?;
-        match self.stop {
-            Stop::Halted(address) => println!(rt; "stopped HLT {address:03X}")?,
-            Stop::Budget => println!(rt; "stopped budget")?,
-        }
+        rt.println(self.counts)?;
+        let stop = self.stop;
+        println!(rt; "stopped {stop}")?;
         Ok(())
     }
 }
