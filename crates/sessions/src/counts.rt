@@ -120,10 +120,11 @@ impl Counts {
 pub(crate) fn count_outcomes(outcomes: &[Outcome]) -> Counts
     ensures { result ≡ outcomes_counted nothing outcomes.now }
 {
-    outcomes.iter().fold(
-        Counts::nothing(),
-        |counts, outcome| counts.with_outcome(*outcome),
-    )
+    let mut counts = Counts::nothing();
+    for outcome in outcomes {
+        counts = counts.with_outcome(*outcome);
+    }
+    counts
 }
 
 impl Limit {
