@@ -18,10 +18,9 @@ impl Tally {
             .iter()
             .zip(outcomes.iter())
             .filter(|(call, outcome)| **call == Call::Clock && outcome.is_ok());
-        let cycles = calls
-            .iter()
-            .zip(outcomes.iter())
-            .filter(|(call, outcome)| **call == Call::Clock && matches!(outcome, Ok(1..)));
+        let cycles = calls.iter().zip(outcomes.iter()).filter(|(call, outcome)| **call
+            == Call::Clock
+            && matches!(outcome, Ok(1..)));
         Tally {
             calls: calls.iter().zip(outcomes.iter()).count(),
             clocks: clocks.count(),
