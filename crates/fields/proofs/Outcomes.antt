@@ -1,5 +1,5 @@
 -- Results that came out as an answer.
-use Rattle.std.proofs.Common.{◌≡◌, ℕ, Bool, true, false, cond, ◌&&◌, Some, None, Ok, Err, Option, Result, refl, arith}
+use Rattle.std.proofs.Common.{◌≡◌, Bool, true, false, cond, ◌&&◌, Some, None, Ok, Err, Option, Result, refl}
 use Rattle.fields.specs.Outcomes.{and_then, or_fault}
 
 module _ {X E : Type 0} where
