@@ -18,6 +18,7 @@ ghost use Rattle.machine.specs.Words.{opcode};
 
 use machine::Port;
 
+// Number fields of its own, and no `Registers`: the project asks for them under the invariant.
 /// A computer that takes one clock at a time. Its registers are always sound: the ghost fields say so.
 #[derive(Drop)]
 pub struct ClockComputer {

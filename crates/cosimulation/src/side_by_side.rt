@@ -71,6 +71,7 @@ impl Cosimulation {
     }
 }
 
+// Two memories and two lines are four parameters: a struct of four references, for two functions, is no plainer.
 /// Makes a new computer on each bench, carries out the calls on the first and their short list on its twin. Want of memory
 /// for what they return changes nothing.
 pub fn cosimulate<MA: Memory, LA: Line, MB: Memory, LB: Line>(

@@ -14,6 +14,7 @@ mod register_marks;
 mod registers;
 mod run;
 
+// Fields of its own, and no `Visible`: each instruction says `self.ac` for `self.visible.ac`.
 /// The registers that a program can see, and no others.
 #[derive(Clone, Copy, Debug)]
 pub struct CycleComputer {

@@ -2,6 +2,7 @@
 use std::fmt;
 
 /// The number of a refusal, the line of the sheet, and the layer that first saw it: 1 fields, 2 statement, 3 sheet.
+// Numbers, and no enums: they are what a refusal tells. The kinds are the fault enums.
 #[derive(Clone, Copy, Debug, PartialEq, Eq)]
 pub struct Report {
     pub number: u8,

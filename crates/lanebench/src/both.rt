@@ -20,6 +20,7 @@ fn script(rt: &HostRuntime, input: &str) -> anyhow::Result<ScriptLine> {
 }
 
 /// The calls of a session: aim, start, and then clocks.
+// `sessions`, which is to take this program's place, has the like: three lines, and no crate below both is plainer.
 fn session(rt: &HostRuntime, options: Options) -> anyhow::Result<Vec<Call>> {
     let calls = [Call::Aim(options.start), Call::Start]
         .into_iter()

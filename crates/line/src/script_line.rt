@@ -13,6 +13,7 @@ mod play;
 pub struct ScriptLine {
     cues: Vec<Cue>,
     /// The place of the next cue.
+    // `remaining` lends the cues left as one slice, which no owning iterator of the library does.
     next: usize,
     /// The beats since the last character, as far as they are counted.
     count: Wait,

@@ -11,6 +11,7 @@ use crate::refusal::Refusal;
 use line::Line;
 use memory::Memory;
 
+// A memory and a line are passed to each call, as the project asks: a computer owns its registers and nothing else.
 /// A computer that is put together with a memory and a line, and run from a panel. Each call answers a number, or is
 /// refused and changes nothing.
 pub trait Computer {
@@ -22,7 +23,8 @@ pub trait Computer {
     /// What a call gives on a board: its answer or refusal, and the board after it.
     ghost on: { Call → Board → Called ℕ Board };
 
-    /// One clock; on a computer that makes whole cycles, one cycle.
+    /// One clock; on a computer that makes whole cycles, one cycle. Answers the clocks of the cycle that it ends, or 0.
+    // 0 and no Option: every call answers a number on the panel, so that one type serves lists of calls.
     fn clock<M: Memory, L: Line>(&mut self, memory: &mut M, line: &mut L) -> Result<u16, Refusal>
         ensures outcome { outcome result ≡ (on Clock (board self.old (M.contents memory.old) (L.replies line.old))).outcome }
         ensures after { board self.new (M.contents memory.new) (L.replies line.new) ≡ (on Clock (board self.old (M.contents memory.old) (L.replies line.old))).after }

@@ -3,6 +3,7 @@ ghost use Rattle.std.specs.Prelude.{◌≡◌};
 ghost use Rattle.options.specs.Options.{defaults};
 
 /// What the words ask for. A word is told by its place.
+// A place and no `&str`: the answer is plain data and its contract an equation, and two equal words are told apart.
 #[derive(Clone, Copy, Debug, PartialEq, Eq)]
 pub struct Options {
     /// The one word that is no option and no value.

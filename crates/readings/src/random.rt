@@ -57,6 +57,7 @@ impl Experiment {
 
     /// Random calls on one rig, until so many cycles are made.
     fn try_calls(&mut self, rig: &mut Rig, cycles: u32) -> Result<(), Difference> {
+        // counts cycles that ended, not turns
         let mut made = 0;
         for _ in 0..100 * u64::from(cycles) {
             if made >= cycles {

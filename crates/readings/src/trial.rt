@@ -19,6 +19,7 @@ const PAPER: usize = 4096;
 fn run(rig: &mut Rig, from: u16, cycles: u32) -> Result<(), Difference> {
     let _ = rig.call(Call::Aim(from))?;
     let _ = rig.call(Call::Start)?;
+    // counts cycles that ended, not turns
     let mut made = 0;
     for _ in 0..7 * u64::from(cycles) {
         if made >= cycles || !rig.computer.registers().s {

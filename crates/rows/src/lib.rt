@@ -1,4 +1,6 @@
 //! The registers of the computer as text: rows under a heading, lines by name, and bytes that do not print.
+//!
+//! A text is a `Vec` of bytes: its exact bytes are promised and digits are bytes, so that a `String` would be no plainer.
 #![tactic(auto)]
 
 mod cell;

@@ -9,6 +9,7 @@ use cycle_bench::CycleComputer;
 use machine::Call;
 
 /// The calls of a session: aim, start, and so many clocks.
+// `lanebench` has the like until this program takes its place.
 fn session_calls(rt: &HostRuntime, from: u16, clocks: u64) -> Result<Vec<Call>, Trouble<'static>> {
     let first = [Call::Aim(from), Call::Start].into_iter();
     let calls = first.chain((0..clocks).map(|_| Call::Clock));

@@ -31,6 +31,7 @@ fn check_together(options: Options) -> Result<(), Trouble<'static>> {
 }
 
 /// A session on one bench.
+// `trace` is an option of the command line, and chooses once between two methods.
 fn run_on<B: Bench>(
     rt: &HostRuntime,
     setup: &Setup,

@@ -8,6 +8,7 @@ mod open;
 mod taking;
 
 /// A book that takes names into records of the caller.
+// A count beside a lent slice: the project asks for records that the caller gives.
 #[derive(Drop)]
 pub struct OpenBook<'a> {
     records: &'a mut [Label],

@@ -18,6 +18,7 @@ pub struct Cell {
 }
 
 /// What one line of a sheet does.
+// Three cases: an Option of an Option would be no plainer.
 #[derive(Clone, Copy)]
 pub enum Step {
     Nothing,

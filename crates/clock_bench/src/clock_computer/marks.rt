@@ -10,6 +10,8 @@ use crate::clock_computer::interrupt::raised;
 use machine::word::skipped;
 use machine::{Port, Registers, bit};
 
+// The instruction bench carries the marks out by a match of its own, as the project asks, so these stand beside it.
+
 // CLA, then CMA, CIR and CIL joined, then INC.
 fn marked_ac(old: Registers) -> u16
     ensures { result ≡ marked_ac old.ir (visible_of old) }

@@ -49,7 +49,7 @@ impl ClockComputer {
         }
     }
 
-    // All registers are written at once.
+    // All registers are written at once, field by field: the project asks for number fields of its own, written whole.
     pub(super) fn load(&mut self, next: Registers)
         requires { Sound next }
         ensures { registers_of self.new ≡ next }

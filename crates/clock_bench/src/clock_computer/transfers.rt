@@ -12,7 +12,8 @@ use crate::clock_computer::indirection::t3;
 use machine::Registers;
 use memory::Memory;
 
-// The registers after the transfers, and the memory write.
+// The registers after the transfers, and the memory write. The match is the timing decoder: a table of functions is no
+// plainer.
 fn transferred<M: Memory>(old: Registers, memory: &mut M) -> Registers
     requires { Sound old }
     ensures { Moves old.sc old (M.contents memory.old) result (M.contents memory.new) }

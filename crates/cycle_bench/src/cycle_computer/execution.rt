@@ -15,6 +15,7 @@ impl CycleComputer {
         requires { opcode word < 7 }
         ensures { CarriedOut (row (opcode word)) word (readied ((row (opcode word)).clocks - 1) (cycle_board self.old (M.contents memory.old) (L.replies line.old))) result (cycle_board self.new (M.contents memory.new) (L.replies line.new)) }
     {
+        // the operation decoder, a match as the project asks
         match word / 4096 % 8 {
             0 => {
                 self.ready(line, 5);

@@ -9,6 +9,8 @@ use crate::status::{Reply, Status};
 use std::alloc::{AllocError, Global};
 
 impl ScriptLine {
+    // The generic `play` promises the rule alone, which does not tell cues and paper; a state in the trait would ask more of
+    // every line.
     /// Shows the line the statuses in order, a beat each, and gives its replies. For want of memory nothing is shown.
     pub fn play(&mut self, statuses: &[Status], heap: Global) -> Result<Vec<Reply>, AllocError>
         ensures replies { IfOk result (λ v. v.items ≡ script_replies (script_of self.old) statuses.now) }

@@ -111,6 +111,7 @@ impl Rig {
 
     /// Every word of both memories: the clock bench's against the second simulator by clocks and by cycles.
     fn compare_words(&self) -> Result<(), Difference> {
+        // by address, since a difference names it, and three memories are compared at once
         for address in 0..4096u16 {
             let by_clocks = self.by_clocks.word(u32::from(address));
             let by_cycles = self.by_cycles.word(u32::from(address));
