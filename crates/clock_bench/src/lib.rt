@@ -1,4 +1,4 @@
-//! The benches: computers that are put together with a memory and a line, and run from a panel.
+//! The clock bench: a computer that is clocked, put together with a memory and a line, and run from a panel.
 #![tactic(auto)]
 
 pub mod clock_computer;

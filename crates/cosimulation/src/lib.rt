@@ -3,9 +3,8 @@
 #![tactic(auto)]
 
 pub mod cosimulation;
-pub mod short_list;
+mod short_list;
 pub mod side_by_side;
 
 pub use cosimulation::{Cosimulation, Outcome};
-pub use short_list::{is_inside, is_struck};
 pub use side_by_side::cosimulate;

@@ -7,7 +7,7 @@ use crate::cosimulation::Outcome;
 use machine::Call;
 
 /// Whether a call is struck out: a granted clock that ended no cycle, or an examine made inside a cycle.
-pub fn is_struck(inside: bool, call: Call, outcome: Outcome) -> bool
+pub(crate) fn is_struck(inside: bool, call: Call, outcome: Outcome) -> bool
     ensures { result ≡ struck inside call (outcome_of outcome) }
 {
     match call {
@@ -21,7 +21,7 @@ pub fn is_struck(inside: bool, call: Call, outcome: Outcome) -> bool
 }
 
 /// Whether the computer is inside a cycle after a call.
-pub fn is_inside(inside: bool, call: Call, outcome: Outcome) -> bool
+pub(crate) fn is_inside(inside: bool, call: Call, outcome: Outcome) -> bool
     ensures { result ≡ inside_then inside (step call (outcome_of outcome)) }
 {
     match call {

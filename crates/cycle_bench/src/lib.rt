@@ -1,4 +1,4 @@
-//! The bench: the basic computer in code.
+//! The instruction bench: a computer that makes whole cycles.
 #![tactic(auto)]
 
 mod choice;

@@ -37,7 +37,7 @@ pub(crate) fn operation_name(opcode: u16) -> Option<[u8; 3]>
     OPERATIONS.get(usize::from(opcode)).copied()
 }
 
-/// The row of a table that has a word.
+/// The row of a table with that word.
 fn row_with(table: &[([u8; 3], u16)], word: u16) -> Option<([u8; 3], u16)>
     ensures { result ≡ find (λ row. word == row.1) table.now }
 {

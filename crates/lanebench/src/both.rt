@@ -69,16 +69,16 @@ fn tell_agreement(
 }
 
 /// Lays the sheet in two memories, makes the calls on both benches, and tells what came of it.
-pub(crate) fn try_both(rt: &HostRuntime, options: Options) -> anyhow::Result<()> {
-    let text = match fs::read(rt, options.sheet) {
+pub(crate) fn try_both(rt: &HostRuntime, sheet: &str, options: Options) -> anyhow::Result<()> {
+    let text = match fs::read(rt, sheet) {
         Ok(text) => text,
         Err(_) => {
-            println!(rt; "{}: cannot be read", options.sheet)?;
+            println!(rt; "{sheet}: cannot be read")?;
             return Ok(());
         }
     };
     let mut memory = WordMemory::new(vec![in rt.alloc(); 0; 4096]?);
-    if !lay(rt, options.sheet, text.as_slice(), &mut memory)? {
+    if !lay(rt, sheet, text.as_slice(), &mut memory)? {
         return Ok(());
     }
     let mut twin_memory = WordMemory::new(vec![in rt.alloc(); 0; 4096]?);
@@ -95,10 +95,7 @@ pub(crate) fn try_both(rt: &HostRuntime, options: Options) -> anyhow::Result<()>
         &mut twin_line,
     )?;
     let all = Tally::of(calls.as_slice(), pair.outcomes.as_slice());
-    println!(rt;
-        "clock bench: {} calls, {} clocks granted, {} cycles, {} refusals",
-        all.calls, all.clocks, all.cycles, all.refusals
-    )?;
+    println!(rt; "clock bench: {all}")?;
     println!(rt;
         "instruction bench: {} calls of the short list",
         pair.twin_outcomes.len()

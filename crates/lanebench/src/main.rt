@@ -18,7 +18,10 @@ The characters of TEXT arrive one after the other. It tells what came of it, and
 fn run(rt: &HostRuntime) -> anyhow::Result<()> {
     let words: Vec<String> = env::args(rt)?.skip(1).collect(rt.alloc())?;
     match read_options(words.as_slice()) {
-        Ok(Some(options)) => both::try_both(rt, options)?,
+        Ok(Some(options)) => match options.sheet {
+            Some(sheet) => both::try_both(rt, sheet, options)?,
+            None => rt.println(USAGE)?,
+        },
         Ok(None) => rt.println(USAGE)?,
         Err(unknown) => {
             rt.println(unknown)?;

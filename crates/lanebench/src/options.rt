@@ -5,7 +5,8 @@ use std::fmt;
 /// A sheet to try, and how.
 #[derive(Clone, Copy)]
 pub(crate) struct Options<'a> {
-    pub sheet: &'a str,
+    /// None where no sheet is named.
+    pub sheet: Option<&'a str>,
     pub start: u16,
     pub clocks: u16,
     pub input: &'a str,
@@ -27,7 +28,7 @@ impl<'a> Options<'a> {
     fn with(self, option: &str, value: &'a str) -> Option<Options<'a>> {
         match option {
             "--both" => Some(Options {
-                sheet: value,
+                sheet: Some(value).filter(|name| !name.is_empty()),
                 ..self
             }),
             "--start" => {
@@ -47,10 +48,10 @@ impl<'a> Options<'a> {
     }
 }
 
-/// Reads the words in pairs: an option and its value. None where help is asked for, or no sheet is named.
+/// Reads the words in pairs: an option and its value. None where help is asked for.
 pub(crate) fn read_options(words: &[String]) -> Result<Option<Options<'_>>, Unknown<'_>> {
     let mut options = Options {
-        sheet: "",
+        sheet: None,
         start: 0,
         clocks: 1000,
         input: "",
@@ -64,9 +65,6 @@ pub(crate) fn read_options(words: &[String]) -> Result<Option<Options<'_>>, Unkn
             [option] if option.as_str() != "--help" => return Err(Unknown(option.as_str())),
             _ => return Ok(None),
         }
-    }
-    if options.sheet.is_empty() {
-        return Ok(None);
     }
     Ok(Some(options))
 }

@@ -1,31 +1,50 @@
 //! What came of a co-simulation, counted.
 use cosimulation::Outcome;
 use machine::Call;
+use std::fmt;
 
 /// How many calls, granted clocks, cycles and refusals there were.
-#[derive(Clone, Copy, Debug)]
+#[derive(Clone, Copy, Debug, Default)]
 pub(crate) struct Tally {
-    pub calls: usize,
-    pub clocks: usize,
-    pub cycles: usize,
-    pub refusals: usize,
+    calls: usize,
+    clocks: usize,
+    cycles: usize,
+    refusals: usize,
 }
 
 impl Tally {
+    /// One call more, by what it returned.
+    fn with(self, call: Call, outcome: Outcome) -> Tally {
+        let mut more = self;
+        more.calls = more.calls.saturating_add(1);
+        match (call, outcome) {
+            (_, Err(_)) => more.refusals = more.refusals.saturating_add(1),
+            (Call::Clock, Ok(clocks)) => {
+                more.clocks = more.clocks.saturating_add(1);
+                more.cycles = more.cycles.saturating_add(usize::from(clocks > 0));
+            }
+            _ => {}
+        }
+        more
+    }
+
     /// Counts the calls by what they returned.
     pub(crate) fn of(calls: &[Call], outcomes: &[Outcome]) -> Tally {
-        let clocks = calls
+        calls
             .iter()
             .zip(outcomes.iter())
-            .filter(|(call, outcome)| **call == Call::Clock && outcome.is_ok());
-        let cycles = calls.iter().zip(outcomes.iter()).filter(|(call, outcome)| **call
-            == Call::Clock
-            && matches!(outcome, Ok(1..)));
-        Tally {
-            calls: calls.iter().zip(outcomes.iter()).count(),
-            clocks: clocks.count(),
-            cycles: cycles.count(),
-            refusals: outcomes.iter().filter(|outcome| outcome.is_err()).count(),
-        }
+            .fold(Tally::default(), |tally, (call, outcome)| tally.with(*call, *outcome))
+    }
+}
+
+impl fmt::Display for Tally {
+    fn fmt<W: fmt::Write>(&self, f: &mut fmt::Formatter<W>) -> fmt::Result {
+        let Tally {
+            calls,
+            clocks,
+            cycles,
+            refusals,
+        } = *self;
+        write!(f, "{calls} calls, {clocks} clocks granted, {cycles} cycles, {refusals} refusals")
     }
 }

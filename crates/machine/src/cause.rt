@@ -31,14 +31,14 @@ pub fn check_address(address: u16) -> Result<(), Refusal>
     }
 }
 
-/// Refuses where S is down.
+/// Refuses where S is down: what must hold is that the computer runs, and the cause is that it stopped.
 pub fn check_running(s: bool) -> Result<(), Refusal>
     ensures { Checked (stopped s) result }
 {
     if s { Ok(()) } else { Err(Refusal::Stopped) }
 }
 
-/// Refuses where S is up.
+/// Refuses where S is up, the other way round.
 pub fn check_stopped(s: bool) -> Result<(), Refusal>
     ensures { Checked (running s) result }
 {

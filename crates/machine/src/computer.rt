@@ -15,8 +15,10 @@ use memory::Memory;
 /// A computer that is put together with a memory and a line, and run from a panel. Each call answers a number, or is
 /// refused and changes nothing.
 pub trait Computer {
-    /// The computer with its memory and its line, as the definitions speak of it.
+    /// What the definitions speak of.
     ghost Board: { Type 0 };
+
+    /// The computer as a board, with the contents of its memory and the rule of its line.
 
     ghost board: { Self → Contents → Rule → Board };
 

@@ -1,4 +1,5 @@
-//! The basic computer of M. Mano's textbook as definitions, clocked by gates and by whole cycles, and what holds of it.
+//! The basic computer of M. Mano's textbook as definitions, clocked by gates and by whole cycles, and what holds of it; the
+//! trait of the computers in code, and what they have in common.
 #![tactic(auto)]
 
 pub mod call;
@@ -7,6 +8,7 @@ pub mod computer;
 mod port;
 pub mod refusal;
 pub mod registers;
+mod skip;
 pub mod theorems;
 pub mod word;
 

@@ -64,6 +64,7 @@ impl Memory for ImageMemory {
 
     fn fetch(&self, address: u16) -> u16 {
         let i = 2 * usize::from(address);
+        // by two indices: with `get(i..i + 2)` the proof did not close
         if i + 1 < self.bytes.len() {
             self.word_at(i)
         } else {

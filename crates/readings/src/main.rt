@@ -70,10 +70,7 @@ fn try_words(rt: &HostRuntime, words: &[String], tally: &mut Tally) -> anyhow::R
 }
 
 fn run(rt: &HostRuntime) -> anyhow::Result<()> {
-    let mut words = Vec::new(rt.alloc());
-    for word in env::args(rt)?.skip(1) {
-        words.push(word)?;
-    }
+    let words: Vec<String> = env::args(rt)?.skip(1).collect(rt.alloc())?;
     if words.is_empty() {
         rt.println(USAGE)?;
         return Ok(());

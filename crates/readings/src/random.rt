@@ -87,18 +87,13 @@ impl Experiment {
         Ok(tried)
     }
 
-    /// Tells the place of a difference, or that there was none, and how much was tried.
-    fn tell(
-        &self,
-        rt: &HostRuntime,
-        memory: u32,
-        tried: Result<(), Difference>,
-    ) -> anyhow::Result<()> {
+    /// Tells a difference and the memory in which it was met, or that there was none, and how much was tried.
+    fn tell(&self, rt: &HostRuntime, tried: Result<(), (u32, Difference)>) -> anyhow::Result<()> {
         let coverage = &self.coverage;
         let calls = coverage.calls;
         match tried {
             Ok(()) => rt.println("  no difference")?,
-            Err(difference) => println!(rt;
+            Err((memory, difference)) => println!(rt;
                 "  DIFFERENCE in memory {memory}, after {calls} calls: {difference}"
             )?,
         }
@@ -107,18 +102,24 @@ impl Experiment {
     }
 }
 
+/// Tries that many cycles of random words, up to the first difference if there is one.
+fn try_memories(
+    heap: Global,
+    experiment: &mut Experiment,
+    cycles: u32,
+) -> Result<Result<(), (u32, Difference)>, AllocError> {
+    for memory in 0..cycles / CYCLES_OF_A_MEMORY {
+        if let Err(difference) = experiment.try_memory(heap, memory)? {
+            return Ok(Err((memory, difference)));
+        }
+    }
+    Ok(Ok(()))
+}
+
 /// Tries that many cycles of random words and tells how much was tried, and the first difference if there is one.
 pub(crate) fn try_random(rt: &HostRuntime, seed: u32, cycles: u32) -> anyhow::Result<()> {
     println!(rt; "random words, seed {seed}:")?;
     let mut experiment = Experiment::new(rt.alloc(), seed)?;
-    let mut tried = Ok(());
-    let mut present = 0;
-    for memory in 0..cycles / CYCLES_OF_A_MEMORY {
-        if tried.is_err() {
-            break;
-        }
-        present = memory;
-        tried = experiment.try_memory(rt.alloc(), memory)?;
-    }
-    experiment.tell(rt, present, tried)
+    let tried = try_memories(rt.alloc(), &mut experiment, cycles)?;
+    experiment.tell(rt, tried)
 }

@@ -10,7 +10,7 @@ use std::alloc::{AllocError, Global};
 
 /// A bench on which a session can be made. A step is a clock, or a whole cycle.
 pub trait Bench: Computer + Drop {
-    /// What is known of a step before it is made.
+    /// What is noted of a step before it is made.
     type Step: Copy + Default + Drop;
 
     /// A new computer.
@@ -31,7 +31,7 @@ pub trait Bench: Computer + Drop {
     /// Where the cycle of a step began.
     fn began(step: Self::Step) -> u16;
 
-    /// What is made with one step more, by its answer.
+    /// The counts after one step more, which answered this.
     fn counted(counts: Counts, answer: u16) -> Counts;
 
     /// The heading of the rows.

@@ -56,7 +56,7 @@ fn clocks_of(
     limit: Limit,
 ) -> Result<(u64, Stop), Trouble<'static>> {
     let mut run: Run<CycleComputer> = Run::start(rt, setup)?;
-    let stop = run.run(rt, limit)?;
+    let stop = run.to_end(rt, limit)?;
     Ok((run.counts.clocks.min(limit.clocks), stop))
 }
 

@@ -120,6 +120,7 @@ impl Counts {
 pub(crate) fn count_outcomes(outcomes: &[Outcome]) -> Counts
     ensures { result ≡ outcomes_counted nothing outcomes.now }
 {
+    // a `for`: with a fold the proof did not close
     let mut counts = Counts::nothing();
     for outcome in outcomes {
         counts = counts.with_outcome(*outcome);

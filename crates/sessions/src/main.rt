@@ -15,27 +15,18 @@ mod setup;
 mod trouble;
 mod usage;
 
-use asked::{Asked, word_at};
-use options::{OptionFault, read_options};
+use asked::Asked;
+use options::read_options;
 use session::try_session;
 use std::{env, io};
 use trouble::Trouble;
 use usage::USAGE;
 
-/// The word that is not understood.
-fn word_of(words: &[String], fault: OptionFault) -> &str {
-    let (OptionFault::Unknown(place)
-    | OptionFault::NoValue(place)
-    | OptionFault::BadValue(place)
-    | OptionFault::SecondSheet(place)) = fault;
-    word_at(words, place)
-}
-
 /// Does what the words ask for.
 fn try_words<'a>(rt: &HostRuntime, words: &'a [String]) -> Result<(), Trouble<'a>> {
     match read_options(words) {
         Ok(options) => try_session(rt, Asked { words, options }),
-        Err(fault) => Err(Trouble::of_words(fault, word_of(words, fault))),
+        Err(fault) => Err(Trouble::of_words(words, fault)),
     }
 }
 

@@ -63,8 +63,8 @@ impl<B: Bench> Run<B> {
         }
     }
 
-    /// Steps until the session ends, with word of it now and then.
-    pub(crate) fn run(&mut self, rt: &HostRuntime, limit: Limit) -> Result<Stop, Trouble<'static>> {
+    /// Steps until the session ends, with word of it now and then. The bound is never met: it shows that the loop ends.
+    pub(crate) fn to_end(&mut self, rt: &HostRuntime, limit: Limit) -> Result<Stop, Trouble<'static>> {
         for _ in 0..u64::MAX {
             if let Some(stop) = (0..CHUNK).find_map(|_| self.step(limit)) {
                 return Ok(stop);
@@ -75,6 +75,7 @@ impl<B: Bench> Run<B> {
     }
 
     /// The same with a row for each step.
+    // A loop of its own: one with a closure for the row would be called at every step of an untraced session too.
     pub(crate) fn trace(
         &mut self,
         rt: &HostRuntime,

@@ -22,15 +22,9 @@ fn character(bytes: &[u8]) -> Option<u8> {
 /// One record.
 fn record(line: &[u8]) -> Option<Cue> {
     let space = line.iter().position(|byte| *byte == b' ')?;
-    let wait = decimal(&line[..space])?;
+    let wait = u16::try_from(decimal(&line[..space])?).ok()?;
     let character = character(&line[space + 1..])?;
-    if wait > 65_535 {
-        return None;
-    }
-    Some(Cue {
-        wait: wait as u16,
-        character,
-    })
+    Some(Cue { wait, character })
 }
 
 /// The records of the script of that name.
@@ -40,7 +34,7 @@ pub(crate) fn read_script<'a>(
     text: &[u8],
 ) -> Result<Vec<Cue>, Trouble<'a>> {
     let mut cues = Vec::new(rt.alloc());
-    for (line, number) in Lines::new(text).zip(1..u32::MAX) {
+    for (line, number) in Lines::new(text).zip(1..u64::MAX) {
         match record(line) {
             Some(cue) => cues.push(cue)?,
             None => return Err(Trouble::NoRecord(name, number)),

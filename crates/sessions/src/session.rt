@@ -42,7 +42,7 @@ fn run_on<B: Bench>(
     let stop = if trace {
         run.trace(rt, limit)?
     } else {
-        run.run(rt, limit)?
+        run.to_end(rt, limit)?
     };
     Ok(run.end(stop))
 }

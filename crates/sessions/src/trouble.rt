@@ -1,4 +1,5 @@
 //! What keeps a session from being tried, told in one line.
+use crate::asked::word_at;
 use fields::Report;
 use options::OptionFault;
 use sheets::SheetFault;
@@ -25,7 +26,7 @@ pub enum Trouble<'a> {
     #[error("{0} has {1} bytes, and a memory image has 8192: two for each of 4096 words")]
     ImageSize(&'a str, usize),
     #[error("line {1} of {0} is no record: a wait up to 65535, a space and a character")]
-    NoRecord(&'a str, u32),
+    NoRecord(&'a str, u64),
     #[error("{0} is refused with {1}: {2}")]
     Refused(&'a str, Report, SheetFault),
     #[error("{0} is refused with {1}: more than 512 labels")]
@@ -39,13 +40,13 @@ pub enum Trouble<'a> {
 }
 
 impl<'a> Trouble<'a> {
-    /// What is not understood in the words of the command line; `word` is where the fault says.
-    pub(crate) fn of_words(fault: OptionFault, word: &'a str) -> Trouble<'a> {
+    /// What is not understood in the words of the command line.
+    pub(crate) fn of_words(words: &'a [String], fault: OptionFault) -> Trouble<'a> {
         match fault {
-            OptionFault::Unknown(_) => Trouble::Unknown(word),
-            OptionFault::NoValue(_) => Trouble::NoValue(word),
-            OptionFault::BadValue(_) => Trouble::BadValue(word),
-            OptionFault::SecondSheet(_) => Trouble::SecondSheet(word),
+            OptionFault::Unknown(place) => Trouble::Unknown(word_at(words, place)),
+            OptionFault::NoValue(place) => Trouble::NoValue(word_at(words, place)),
+            OptionFault::BadValue(place) => Trouble::BadValue(word_at(words, place)),
+            OptionFault::SecondSheet(place) => Trouble::SecondSheet(word_at(words, place)),
         }
     }
 

@@ -14,7 +14,7 @@ sheet_ahead (Some walk) = ahead walk
 abbrev pub sheet_left : SheetReader → Sheet
 sheet_left r = sheet_ahead r.walk
 
--- how many items may come: fewer than one for each byte, and a refusal at the end
+-- how many items may come: at most one for each byte, and a refusal at the end
 abbrev pub most_ahead : Option Walk → ℕ
 most_ahead None = 0
 most_ahead (Some walk) = suc (length walk.rest.now)

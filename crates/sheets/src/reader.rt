@@ -3,7 +3,7 @@ use crate::fault::SheetFault;
 use crate::placed::{Placed, Step};
 use crate::walk::Walk;
 
-/// The statements of a sheet that lay a word, up to END or the first refusal; nothing is left behind either.
+/// The statements of a sheet that lay a word, up to END or the first refusal. After either it gives nothing more.
 #[derive(Clone, Copy)]
 pub(crate) struct SheetReader<'a> {
     walk: Option<Walk<'a>>,

@@ -66,6 +66,7 @@ pub(super) fn t5(old: Registers) -> Registers
     match old.ir / 4096 % 8 {
         0 => loaded(old, old.ac & old.dr, old.e),
         1 => {
+            // `as`: with `u32::from` the proof did not close
             let carry = old.ac as u32 + old.dr as u32 >= 65536;
             loaded(old, old.ac.wrapping_add(old.dr), carry)
         }

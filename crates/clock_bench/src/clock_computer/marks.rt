@@ -2,15 +2,15 @@
 ghost use Rattle.std.specs.Prelude.{◌≡◌};
 ghost use Rattle.machine.specs.Boards.{visible_of};
 ghost use Rattle.machine.specs.Parts.{flip_flop, unless_lowered};
-ghost use Rattle.machine.specs.Table.{marked_ac, marked_e, register_skip, port_skip};
+ghost use Rattle.machine.specs.Table.{marked_ac, marked_e};
 ghost use Rattle.machine.specs.Words.{bit};
 ghost use Rattle.clock_bench.specs.ClockComputers.{register_marked, port_marked};
 
 use crate::clock_computer::interrupt::raised;
 use machine::word::skipped;
-use machine::{Port, Registers, bit};
+use machine::{Port, Registers, Visible, bit};
 
-// The instruction bench carries the marks out by a match of its own, as the project asks, so these stand beside it.
+// The instruction bench carries the marks of AC, E and IEN out by a match of its own, as the project asks: these stand beside it.
 
 // CLA, then CMA, CIR and CIL joined, then INC.
 fn marked_ac(old: Registers) -> u16
@@ -53,24 +53,6 @@ fn marked_e(old: Registers) -> bool
     }
 }
 
-// SPA, SNA, SZA and SZE.
-fn register_skip(old: Registers) -> bool
-    ensures { result ≡ register_skip old.ir (visible_of old) }
-{
-    let word = old.ir;
-    bit!(word, 4) & !bit!(old.ac, 15)
-        | bit!(word, 3) & bit!(old.ac, 15)
-        | bit!(word, 2) & (old.ac == 0)
-        | bit!(word, 1) & !old.e
-}
-
-// SKI and SKO.
-fn port_skip(old: Registers) -> bool
-    ensures { result ≡ port_skip old.ir (visible_of old) }
-{
-    bit!(old.ir, 9) & old.port.fgi | bit!(old.ir, 8) & old.port.fgo
-}
-
 // ION and IOF; together they turn IEN.
 fn marked_ien(old: Registers) -> bool
     ensures { result ≡ flip_flop (bit 7 old.ir) (bit 6 old.ir) old.ien }
@@ -98,7 +80,7 @@ pub(super) fn register_reference(old: Registers) -> Registers
     Registers {
         ac: marked_ac(old),
         e: marked_e(old),
-        pc: skipped(old.pc, register_skip(old)),
+        pc: skipped(old.pc, Visible::from(old).register_skip(old.ir)),
         r: raised(old),
         s: marked_s(old),
         sc: 0,
@@ -131,11 +113,11 @@ pub(super) fn input_output(old: Registers) -> Registers
     let inp = bit!(old.ir, 11);
     Registers {
         ac: if inp {
-            old.ac / 256 * 256 + old.port.inpr as u16
+            old.ac / 256 * 256 + u16::from(old.port.inpr)
         } else {
             old.ac
         },
-        pc: skipped(old.pc, port_skip(old)),
+        pc: skipped(old.pc, Visible::from(old).port_skip(old.ir)),
         ien: marked_ien(old),
         r: raised(old),
         port: marked_port(old),

@@ -34,7 +34,7 @@ fn clocks_ended(sc: u8, next: u8) -> u16
     requires { sc ≤ 6 }
     ensures { result ≡ (if nat_eq next 0 then sc + 1 else 0) }
 {
-    if next == 0 { sc as u16 + 1 } else { 0 }
+    if next == 0 { u16::from(sc) + 1 } else { 0 }
 }
 
 impl ClockComputer {

@@ -2,7 +2,7 @@
 ghost use Rattle.std.specs.Prelude.{◌≡◌};
 ghost use Rattle.machine.specs.Words.{bit};
 ghost use Rattle.machine.specs.Parts.{flip_flop};
-ghost use Rattle.machine.specs.Table.{port_skip, port_marks};
+ghost use Rattle.machine.specs.Table.{port_marks};
 ghost use Rattle.cycle_bench.specs.CycleComputers.{registers_of};
 
 use crate::choice::choose;
@@ -11,13 +11,6 @@ use machine::bit;
 use machine::word::skipped;
 
 impl CycleComputer {
-    /// Whether SKI or SKO skips.
-    fn port_skips(&self, word: u16) -> bool
-        ensures { result ≡ port_skip word (registers_of self.now) }
-    {
-        bit!(word, 9) & self.port.fgi | bit!(word, 8) & self.port.fgo
-    }
-
     /// IEN after ION and IOF, which together turn it over.
     fn marked_ien(&self, word: u16) -> bool
         ensures { result ≡ flip_flop (bit 7 word) (bit 6 word) self.now.ien }
@@ -36,9 +29,13 @@ impl CycleComputer {
         ensures registers { registers_of self.new ≡ port_marks word (registers_of self.old) }
     {
         let ien = self.marked_ien(word);
-        let pc = skipped(self.pc, self.port_skips(word));
+        let pc = skipped(self.pc, self.visible().port_skip(word));
         let ac = self.ac;
-        self.ac = choose(bit!(word, 11), ac / 256 * 256 + self.port.inpr as u16, ac);
+        self.ac = choose(
+            bit!(word, 11),
+            ac / 256 * 256 + u16::from(self.port.inpr),
+            ac,
+        );
         self.port.fgi = choose(bit!(word, 11), false, self.port.fgi);
         self.port.outr = choose(bit!(word, 10), (ac % 256) as u8, self.port.outr);
         self.port.fgo = choose(bit!(word, 10), false, self.port.fgo);

@@ -44,7 +44,7 @@ impl CycleComputer {
         ensures { (rule : Rule) → CarriedOut ADD word (cycle_board self.old (M.contents memory.now) rule) result (cycle_board self.new (M.contents memory.now) rule) }
     {
         let operand = operand_of(memory, word);
-        self.e = self.ac as u32 + operand as u32 >= 65536;
+        self.e = u32::from(self.ac) + u32::from(operand) >= 65536;
         self.ac = self.ac.wrapping_add(operand);
         6
     }

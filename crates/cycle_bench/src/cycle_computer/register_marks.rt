@@ -2,7 +2,7 @@
 ghost use Rattle.std.specs.Prelude.{◌≡◌, bit_or};
 ghost use Rattle.machine.specs.Words.{bit, complement, circulated_right, circulated_left};
 ghost use Rattle.machine.specs.Parts.{source};
-ghost use Rattle.machine.specs.Table.{marked_ac, marked_e, register_skip, register_marks};
+ghost use Rattle.machine.specs.Table.{marked_ac, marked_e, register_marks};
 ghost use Rattle.cycle_bench.specs.CycleComputers.{registers_of};
 
 use crate::choice::choose;
@@ -50,16 +50,6 @@ impl CycleComputer {
         }
     }
 
-    /// Whether SPA, SNA, SZA or SZE skips.
-    fn register_skips(&self, word: u16) -> bool
-        ensures { result ≡ register_skip word (registers_of self.now) }
-    {
-        bit!(word, 4) & !bit!(self.ac, 15)
-            | bit!(word, 3) & bit!(self.ac, 15)
-            | bit!(word, 2) & (self.ac == 0)
-            | bit!(word, 1) & !self.e
-    }
-
     /// All of them; HLT lowers S. Answers their clocks.
     pub(super) fn register_marks(&mut self, word: u16) -> u16
         ensures clocks { result ≡ 4 }
@@ -67,7 +57,7 @@ impl CycleComputer {
     {
         let ac = self.marked_ac(word);
         let e = self.marked_e(word);
-        let pc = skipped(self.pc, self.register_skips(word));
+        let pc = skipped(self.pc, self.visible().register_skip(word));
         self.ac = ac;
         self.e = e;
         self.pc = pc;

@@ -25,6 +25,7 @@ impl CycleComputer {
             if !self.s {
                 return (made, clocks);
             }
+            // `as`: with `u32::from` the proof did not close
             clocks += self.whole_cycle(memory, line) as u32;
         }
         (n, clocks)

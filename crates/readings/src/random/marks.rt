@@ -65,5 +65,5 @@ pub(crate) fn try_marks(rt: &HostRuntime, seed: u32) -> anyhow::Result<()> {
     let mut rig = Rig::new(rt.alloc(), words.as_slice(), cues.as_slice(), 4096)?;
     let tried = experiment.try_every_word(&mut rig);
     experiment.coverage.count_line(&rig.line, cues.len());
-    experiment.tell(rt, 0, tried)
+    experiment.tell(rt, tried.map_err(|difference| (0, difference)))
 }
