@@ -30,10 +30,10 @@ impl Tally {
 
     /// Counts the calls by what they returned.
     pub(crate) fn of(calls: &[Call], outcomes: &[Outcome]) -> Tally {
-        calls
-            .iter()
-            .zip(outcomes.iter())
-            .fold(Tally::default(), |tally, (call, outcome)| tally.with(*call, *outcome))
+        calls.iter().zip(outcomes.iter()).fold(
+            Tally::default(),
+            |tally, (call, outcome)| tally.with(*call, *outcome),
+        )
     }
 }
 
@@ -45,6 +45,9 @@ impl fmt::Display for Tally {
             cycles,
             refusals,
         } = *self;
-        write!(f, "{calls} calls, {clocks} clocks granted, {cycles} cycles, {refusals} refusals")
+        write!(
+            f,
+            "{calls} calls, {clocks} clocks granted, {cycles} cycles, {refusals} refusals"
+        )
     }
 }

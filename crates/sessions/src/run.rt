@@ -64,7 +64,11 @@ impl<B: Bench> Run<B> {
     }
 
     /// Steps until the session ends, with word of it now and then. The bound is never met: it shows that the loop ends.
-    pub(crate) fn to_end(&mut self, rt: &HostRuntime, limit: Limit) -> Result<Stop, Trouble<'static>> {
+    pub(crate) fn to_end(
+        &mut self,
+        rt: &HostRuntime,
+        limit: Limit,
+    ) -> Result<Stop, Trouble<'static>> {
         for _ in 0..u64::MAX {
             if let Some(stop) = (0..CHUNK).find_map(|_| self.step(limit)) {
                 return Ok(stop);
