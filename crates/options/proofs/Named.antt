@@ -1,5 +1,5 @@
 -- A word that has none of several names.
-use Rattle.std.proofs.Common.{◌≡◌, ℕ, Bool, true, false, cond, List, [], ◌∷◌, Some, None, refl, ap, ◌∙◌, arith}
+use Rattle.std.proofs.Common.{◌≡◌, ℕ, Bool, true, false, cond, List, [], ◌∷◌, Some, None, refl, ap, ◌∙◌}
 use Rattle.std.specs.Str.{bytes_eq}
 use Rattle.std.proofs.lemmas.Slice.Eq.{bytes_eq-Decides}
 use Rattle.options.specs.Names.{named}
@@ -28,5 +28,5 @@ found-by name xs w y x true e k h =
 found-by name xs w y x false e k h = k h
 
 pub found : {X : Type 0} (name : X → List ℕ) (xs : List X) (w : List ℕ) (x : X) → named name xs w ≡ Some x → w ≡ name x
-found name [] w x h = absurd (let z : ◌≡◌ {A = ℕ} 0 1 = cc in omega arith)
+found name [] w x h = cc
 found name (y ∷ ys) w x h = found-by name ys w y x (bytes_eq w (name y)) refl (found name ys w x) h

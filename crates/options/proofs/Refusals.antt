@@ -1,13 +1,12 @@
 -- What is refused: the words before are right, and then comes what is not.
 use Rattle.std.proofs.Common.{◌≡◌, ℕ, ◌+◌, ◌<◌, ◌≤◌, Bool, true, false, cond, List, [], ◌∷◌, ◌++◌, length, is_some, Some, None, Ok, Err, Option, Result, sym, refl, ap, subst, arith, length-append}
-use Rattle.fields.proofs.Outcomes.{clash}
-use Rattle.fields.specs.Outcomes.{and_then}
+use Rattle.fields.specs.Outcomes.{and_then, or_fault}
 use Rattle.options.specs.declared.options.OptionFault.{OptionFault}
 use Rattle.options.specs.declared.options.OptionFault.TheVariants as fault
 use Rattle.options.specs.declared.options.Options.{Options}
 use Rattle.options.specs.declared.word.Valued.{Valued}
 use Rattle.options.specs.declared.word.Word.{Word}
-use Rattle.options.specs.declared.word.Word.TheVariants.{Sheet, Alone, Awaits, Unknown}
+use Rattle.options.specs.declared.word.Word.TheVariants.{Sheet, Alone, Awaits}
 use Rattle.options.specs.Options.{defaults}
 use Rattle.options.specs.Names.{valued_name, dashed, word_of}
 use Rattle.options.specs.Mentions.{Mention, sheet_at, alone, valued_at, fits, told}
@@ -55,13 +54,13 @@ module _ (at : ℕ) (w : List ℕ) (ws : List (List ℕ)) (o : Options) (f : Opt
       subst (λ (g : OptionFault). Breaks at (w ∷ ws) o g) (err-same (fault.SecondSheet at) f h) (here at (w ∷ ws) o (fault.SecondSheet at) 1 (sym (one_told o.sheet n)) (second_sheet e))
   sheet-stops false n e h = behind-sheet at w o ws f n e (more None (told (sheet_at at ∷ []) o) h)
 
-  word-stops : (x : Word) → Kind w x → and_then (and_then (by_kind o at x) (read_on (at + 1) ws)) ended ≡ Err f → Breaks at (w ∷ ws) o f
-  word-stops Sheet e h = sheet-stops (is_some o.sheet) refl e h
-  word-stops (Alone g) e h =
+  word-stops : (x : Option Word) → Kind w x → and_then (and_then (or_fault (fault.Unknown at) x (by_kind o at)) (read_on (at + 1) ws)) ended ≡ Err f → Breaks at (w ∷ ws) o f
+  word-stops (Some Sheet) e h = sheet-stops (is_some o.sheet) refl e h
+  word-stops (Some (Alone g)) e h =
       let (a, b, ms, m, s, p, q, c, l, n, x) = more None (told (alone g ∷ []) o) h in
       (w ∷ a, b, alone g ∷ ms, m, s, ap (λ y. w ∷ y) p, flag g e q, omega (arith, counted (alone g) ms o (flag-named g), c), l, omega (arith, n), x)
-  word-stops (Awaits k) e h = behind-value at w o k ws f e (more (Some (k, at)) o h)
-  word-stops Unknown e h =
+  word-stops (Some (Awaits k)) e h = behind-value at w o k ws f e (more (Some (k, at)) o h)
+  word-stops None e h =
       subst (λ (g : OptionFault). Breaks at (w ∷ ws) o g) (err-same (fault.Unknown at) f h) (here at (w ∷ ws) o (fault.Unknown at) (one o.sheet) refl (unknown e.0 e.1 e.2))
 
   value-stops : (k : Valued × ℕ) (b : Bool) → fits k.0 w ≡ b → and_then (and_then (cond b (Ok (after (valued_at k.0 at w) o)) (Err (fault.BadValue at))) (read_on (at + 1) ws)) ended ≡ Err f → Snag k.0 k.1 at o (w ∷ ws) f
@@ -69,7 +68,7 @@ module _ (at : ℕ) (w : List ℕ) (ws : List (List ℕ)) (o : Options) (f : Opt
   value-stops k false t h = subst (λ (g : OptionFault). Snag k.0 k.1 at o (w ∷ ws) g) (err-same (fault.BadValue at) f h) (bad t)
 
 stops : (ws : List (List ℕ)) (k : Option (Valued × ℕ)) (at : ℕ) (o : Options) (f : OptionFault) → left at ws k o ≡ Err f → Stops k at ws o f
-stops [] None at o f h = absurd (clash f o (sym h))
+stops [] None at o f h = cc
 stops [] (Some k) at o f h = subst (λ (g : OptionFault). Snag k.0 k.1 at o [] g) (err-same (fault.NoValue k.1) f h) ends
 stops (w ∷ ws) None at o f h = word-stops at w ws o f (λ k q. stops ws k (at + 1) q f) (word_of w) (kind w) h
 stops (w ∷ ws) (Some k) at o f h = value-stops at w ws o f (λ k q. stops ws k (at + 1) q f) k (fits k.0 w) refl h
