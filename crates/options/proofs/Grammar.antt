@@ -1,5 +1,5 @@
 -- What is mentioned is read so, and what is read is mentioned.
-use Rattle.std.proofs.Common.{◌≡◌, ℕ, ◌+◌, ◌≤◌, Bool, true, false, cond, List, [], ◌∷◌, is_some, Some, None, Ok, Err, Option, sym, refl, ap, ◌∙◌, subst, arith}
+use Rattle.std.proofs.Common.{◌≡◌, ℕ, ◌+◌, ◌≤◌, Bool, true, false, cond, List, [], ◌∷◌, is_some, Some, None, Ok, Err, Option, sym, refl, ap, ◌∙◌, arith}
 use Rattle.fields.specs.Outcomes.{and_then, or_fault}
 use Rattle.options.specs.declared.options.OptionFault.TheVariants as fault
 use Rattle.options.specs.declared.options.Options.{Options}
@@ -56,20 +56,18 @@ module _ (at : ℕ) (w : List ℕ) (ws : List (List ℕ)) (o p : Options) (more 
   sheet-form : (b : Bool) → is_some o.sheet ≡ b → dashed w ≡ false → and_then (and_then (cond b (Err (fault.SecondSheet at)) (Ok (after (sheet_at at) o))) (read_on (at + 1) ws)) ended ≡ Ok p → Become at (w ∷ ws) o p
   sheet-form true n e h = cc
   sheet-form false n e h =
-      let b = more None (told (sheet_at at ∷ []) o) h in
-      (sheet_at at ∷ b.0, sheet e b.1, omega (arith, none_told o.sheet n, b.2), b.3)
+      let (ms, m, l, q) = more None (told (sheet_at at ∷ []) o) h in
+      (sheet_at at ∷ ms, sheet e m, omega (arith, none_told o.sheet n), q)
 
   word-form : (x : Option Word) → Kind w x → and_then (and_then (or_fault (fault.Unknown at) x (by_kind o at)) (read_on (at + 1) ws)) ended ≡ Ok p → Become at (w ∷ ws) o p
   word-form (Some Sheet) e h = sheet-form (is_some o.sheet) refl e h
   word-form (Some (Alone f)) e h =
-      let b = more None (told (alone f ∷ []) o) h in
-      (alone f ∷ b.0, flag f e b.1, omega (arith, counted (alone f) b.0 o (flag-named f), b.2), b.3)
+      let (ms, m, l, q) = more None (told (alone f ∷ []) o) h in
+      (alone f ∷ ms, flag f e m, omega (arith, counted (alone f) ms o (flag-named f)), q)
   word-form (Some (Awaits k)) e h =
-      let b = more (Some (k, at)) o h in
-      let here : Mention = valued_at k (at + 1) b.0 in
-      let ms : List Mention = b.4.0 in
-      let m : Mentions at (w ∷ b.0 ∷ b.1) (here ∷ ms) = valued k e b.3 b.4.1 in
-      (here ∷ ms, subst (λ (us : List (List ℕ)). Mentions at (w ∷ us) (here ∷ ms)) (sym b.2) m, omega (arith, counted here ms o (valued-named k), b.4.2), b.4.3)
+      let (v, vs, g, t, (ms, m, l, q)) = more (Some (k, at)) o h in
+      let here : Mention = valued_at k (at + 1) v in
+      (here ∷ ms, rw g (valued k e t m), omega (arith, counted here ms o (valued-named k)), q)
   word-form None e h = cc
 
   value-form : (k : Valued × ℕ) (b : Bool) → fits k.0 w ≡ b → and_then (and_then (cond b (Ok (after (valued_at k.0 at w) o)) (Err (fault.BadValue at))) (read_on (at + 1) ws)) ended ≡ Ok p → Waiting (Some k) at (w ∷ ws) o p
@@ -84,5 +82,5 @@ forms (w ∷ ws) (Some k) at o p h = value-form at w ws o p (λ k q. forms ws k 
 
 pub asked : (words : List (List ℕ)) (o : Options) → options_of words ≡ Ok o → Asked words o
 asked words o e =
-    let b = forms words None 0 defaults o e in
-    (b.0, b.1, omega (arith, b.2), b.3)
+    let (ms, m, l, q) = forms words None 0 defaults o e in
+    (ms, m, omega arith, q)

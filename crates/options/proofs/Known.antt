@@ -63,17 +63,11 @@ Kind w (Some (Alone f)) = w ≡ flag_name f
 Kind w (Some (Awaits k)) = w ≡ valued_name k
 Kind w None = (dashed w ≡ true) × ((f : Flag) → w ≡ flag_name f → ⊥) × ((k : Valued) → w ≡ valued_name k → ⊥)
 
-not_flag : (w : List ℕ) (f : Flag) → word_of w ≡ None → w ≡ flag_name f → ⊥
-not_flag w f x e = cc (flag-known f, ap word_of e)
-
-not-valued : (w : List ℕ) (k : Valued) → word_of w ≡ None → w ≡ valued_name k → ⊥
-not-valued w k x e = cc (valued-known k, ap word_of e)
-
 kind-by : (w : List ℕ) (b : Bool) (f : Option Flag) (k : Option Valued) → dashed w ≡ b → flag_named w ≡ f → valued_named w ≡ k → word_of w ≡ cond b (option_by f k) (Some Sheet) → Kind w (cond b (option_by f k) (Some Sheet))
 kind-by w false f k d e g x = d
 kind-by w true (Some f) k d e g x = found flag_name flags w f e
 kind-by w true None (Some k) d e g x = found valued_name valueds w k g
-kind-by w true None None d e g x = (d, λ f. not_flag w f x, λ k. not-valued w k x)
+kind-by w true None None d e g x = (d, λ f h. cc (flag-known f, ap word_of h), λ k h. cc (valued-known k, ap word_of h))
 
 pub kind : (w : List ℕ) → Kind w (word_of w)
 kind w = kind-by w (dashed w) (flag_named w) (valued_named w) refl refl refl refl
