@@ -15,27 +15,18 @@ use Rattle.options.proofs.Known.{flag-known, flag-named, valued-known, valued-na
 
 -- WHAT IS MENTIONED IS READ SO
 
-read-by-word : (at : ℕ) (w : List ℕ) (ws : List (List ℕ)) (o : Options) (x : Word) → word_of w ≡ Some x → read_on at (w ∷ ws) (ready o) ≡ and_then (by_kind o at x) (read_on (at + 1) ws)
-read-by-word at w ws o x e = ap (λ y. and_then (or_fault (fault.Unknown at) y (by_kind o at)) (read_on (at + 1) ws)) e
-
 read-so : (at : ℕ) (ws : List (List ℕ)) (ms : List Mention) → Mentions at ws ms → (o : Options) → sheets ms + one o.sheet ≤ 1 → read_on at ws (ready o) ≡ Ok (ready (told ms o))
 read-so _ _ _ nothing o h = refl
 read-so _ _ _ (sheet {at} {w} {ws} {ms} e m) o h =
     let n : is_some o.sheet ≡ false = none_yet o.sheet (omega arith) in
-    let x : word_of w ≡ Some Sheet = rw e in
-    read-by-word at w ws o Sheet x
-    ∙ ap (λ b. and_then (cond b (Err (fault.SecondSheet at)) (Ok (after (sheet_at at) o))) (read_on (at + 1) ws)) n
-    ∙ read-so (at + 1) ws ms m (told (sheet_at at ∷ []) o) (omega arith)
+    rw (e, n) (read-so (at + 1) ws ms m (told (sheet_at at ∷ []) o) (omega arith))
 read-so _ _ _ (flag {at} {w} {ws} {ms} f e m) o h =
     let x : word_of w ≡ Some (Alone f) = ap word_of e ∙ flag-known f in
-    read-by-word at w ws o (Alone f) x
-    ∙ read-so (at + 1) ws ms m (told (alone f ∷ []) o) (omega (arith, counted (alone f) ms o (flag-named f)))
+    rw x (read-so (at + 1) ws ms m (told (alone f ∷ []) o) (omega (arith, counted (alone f) ms o (flag-named f))))
 read-so _ _ _ (valued {at} {w} {v} {ws} {ms} k e t m) o h =
     let x : word_of w ≡ Some (Awaits k) = ap word_of e ∙ valued-known k in
     let here : Mention = valued_at k (at + 1) v in
-    read-by-word at w (v ∷ ws) o (Awaits k) x
-    ∙ ap (λ b. and_then (cond b (Ok (after here o)) (Err (fault.BadValue (at + 1)))) (read_on (at + 1 + 1) ws)) t
-    ∙ read-so (at + 1 + 1) ws ms m (told (here ∷ []) o) (omega (arith, counted here ms o (valued-named k)))
+    rw (x, t) (read-so (at + 1 + 1) ws ms m (told (here ∷ []) o) (omega (arith, counted here ms o (valued-named k))))
 
 pub each : (words : List (List ℕ)) (o : Options) → Asked words o → options_of words ≡ Ok o
 each words o (ms, m, h, e) = ap (λ r. and_then r ended) (read-so 0 words ms m defaults (omega arith)) ∙ ap (λ p. Ok p) (sym e)

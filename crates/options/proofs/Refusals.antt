@@ -32,18 +32,18 @@ Stops None at ws o f = Breaks at ws o f
 Stops (Some k) at ws o f = Snag k.0 k.1 at o ws f
 
 here : (at : ℕ) (ws : List (List ℕ)) (o : Options) (f : OptionFault) (s : ℕ) → s ≡ one o.sheet → Wrong at s ws f → Breaks at ws o f
-here at ws o f s e x = ([], ws, [], at, s, refl, nothing, omega (arith, e), omega (arith, e, at_most_one o.sheet), omega arith, x)
+here at ws o f s e x = ([], ws, [], at, s, refl, nothing, omega arith, omega (arith, at_most_one o.sheet), omega arith, x)
 
 module _ (at : ℕ) (w : List ℕ) (o : Options) where
   behind-sheet : (ws : List (List ℕ)) (f : OptionFault) → is_some o.sheet ≡ false → dashed w ≡ false → Breaks (at + 1) ws (told (sheet_at at ∷ []) o) f → Breaks at (w ∷ ws) o f
   behind-sheet ws f n e (a, b, ms, m, s, p, q, c, l, g, x) =
-      (w ∷ a, b, sheet_at at ∷ ms, m, s, ap (λ y. w ∷ y) p, sheet e q, omega (arith, none_told o.sheet n, c), l, omega (arith, g), x)
+      (w ∷ a, b, sheet_at at ∷ ms, m, s, ap (λ y. w ∷ y) p, sheet e q, omega (arith, none_told o.sheet n), l, omega arith, x)
 
   behind-value : (k : Valued) (ws : List (List ℕ)) (f : OptionFault) → w ≡ valued_name k → Snag k at (at + 1) o ws f → Breaks at (w ∷ ws) o f
   behind-value k _ _ e ends = here at (w ∷ []) o (fault.NoValue at) (one o.sheet) refl (no_value k e)
   behind-value k _ _ e (bad {v} {vs} t) = here at (w ∷ v ∷ vs) o (fault.BadValue (at + 1)) (one o.sheet) refl (bad_value k e t)
   behind-value k _ _ e (goes {v} {vs} {f} t (a, b, ms, m, s, p, q, c, l, g, x)) =
-      (w ∷ v ∷ a, b, valued_at k (at + 1) v ∷ ms, m, s, ap (λ y. w ∷ v ∷ y) p, valued k e t q, omega (arith, counted (valued_at k (at + 1) v) ms o (valued-named k), c), l, omega (arith, g), x)
+      (w ∷ v ∷ a, b, valued_at k (at + 1) v ∷ ms, m, s, ap (λ y. w ∷ v ∷ y) p, valued k e t q, omega (arith, counted (valued_at k (at + 1) v) ms o (valued-named k)), l, omega arith, x)
 
 module _ (at : ℕ) (w : List ℕ) (ws : List (List ℕ)) (o : Options) (f : OptionFault) (more : (k : Option (Valued × ℕ)) (q : Options) → left (at + 1) ws k q ≡ Err f → Stops k (at + 1) ws q f) where
   sheet-stops : (b : Bool) → is_some o.sheet ≡ b → dashed w ≡ false → and_then (and_then (cond b (Err (fault.SecondSheet at)) (Ok (after (sheet_at at) o))) (read_on (at + 1) ws)) ended ≡ Err f → Breaks at (w ∷ ws) o f
@@ -56,7 +56,7 @@ module _ (at : ℕ) (w : List ℕ) (ws : List (List ℕ)) (o : Options) (f : Opt
   word-stops (Some Sheet) e h = sheet-stops (is_some o.sheet) refl e h
   word-stops (Some (Alone g)) e h =
       let (a, b, ms, m, s, p, q, c, l, n, x) = more None (told (alone g ∷ []) o) h in
-      (w ∷ a, b, alone g ∷ ms, m, s, ap (λ y. w ∷ y) p, flag g e q, omega (arith, counted (alone g) ms o (flag-named g), c), l, omega (arith, n), x)
+      (w ∷ a, b, alone g ∷ ms, m, s, ap (λ y. w ∷ y) p, flag g e q, omega (arith, counted (alone g) ms o (flag-named g)), l, omega arith, x)
   word-stops (Some (Awaits k)) e h = behind-value at w o k ws f e (more (Some (k, at)) o h)
   word-stops None e h =
       let g : f ≡ fault.Unknown at = cc in
