@@ -1,6 +1,7 @@
 -- What is mentioned is read so, and what is read is mentioned.
 use Rattle.std.proofs.Common.{◌≡◌, ℕ, ◌+◌, ◌≤◌, Bool, true, false, cond, List, [], ◌∷◌, is_some, Some, None, Ok, Err, Option, sym, refl, ap, ◌∙◌, arith}
 use Rattle.fields.specs.Outcomes.{and_then, or_fault}
+use Rattle.std.proofs.lemmas.Bool.Decides.{nat_tests}
 use Rattle.options.specs.declared.options.OptionFault.TheVariants as fault
 use Rattle.options.specs.declared.options.Options.{Options}
 use Rattle.options.specs.declared.word.Valued.{Valued}
@@ -11,14 +12,14 @@ use Rattle.options.specs.Names.{dashed, word_of}
 use Rattle.options.specs.Mentions.{Mention, sheet_at, alone, valued_at, fits, told}
 use Rattle.options.specs.Grammar.{Mentions, nothing, sheet, flag, valued, sheets, Asked}
 use Rattle.options.specs.Reading.{after, by_kind, read_on, options_of}
-use Rattle.options.proofs.Known.{flag-known, flag-named, valued-known, valued-named, Kind, kind, one, none_yet, none_told, at_most_one, ready, ended, counted, left}
+use Rattle.options.proofs.Known.{flag-known, flag-named, valued-known, valued-named, Kind, kind, one, ready, ended, counted, left}
 
 -- WHAT IS MENTIONED IS READ SO
 
 read-so : (at : ℕ) (ws : List (List ℕ)) (ms : List Mention) → Mentions at ws ms → (o : Options) → sheets ms + one o.sheet ≤ 1 → read_on at ws (ready o) ≡ Ok (ready (told ms o))
 read-so _ _ _ nothing o h = refl
 read-so _ _ _ (sheet {at} {w} {ws} {ms} e m) o h =
-    let n : is_some o.sheet ≡ false = none_yet o.sheet (omega arith) in
+    let n : is_some o.sheet ≡ false = grind (arith, nat_tests) in
     rw (e, n) (read-so (at + 1) ws ms m (told (sheet_at at ∷ []) o) (omega arith))
 read-so _ _ _ (flag {at} {w} {ws} {ms} f e m) o h =
     let x : word_of w ≡ Some (Alone f) = ap word_of e ∙ flag-known f in
@@ -48,7 +49,7 @@ module _ (at : ℕ) (w : List ℕ) (ws : List (List ℕ)) (o p : Options) (more 
   sheet-form true n e h = cc
   sheet-form false n e h =
       let (ms, m, l, q) = more None (told (sheet_at at ∷ []) o) h in
-      (sheet_at at ∷ ms, sheet e m, omega (arith, none_told o.sheet n), q)
+      (sheet_at at ∷ ms, sheet e m, rw n (omega arith), q)
 
   word-form : (x : Option Word) → Kind w x → and_then (and_then (or_fault (fault.Unknown at) x (by_kind o at)) (read_on (at + 1) ws)) ended ≡ Ok p → Become at (w ∷ ws) o p
   word-form (Some Sheet) e h = sheet-form (is_some o.sheet) refl e h
@@ -66,7 +67,7 @@ module _ (at : ℕ) (w : List ℕ) (ws : List (List ℕ)) (o p : Options) (more 
   value-form k false t h = cc
 
 forms : (ws : List (List ℕ)) (k : Option (Valued × ℕ)) (at : ℕ) (o p : Options) → left at ws k o ≡ Ok p → Waiting k at ws o p
-forms [] None at o p h = ([], nothing, omega (arith, at_most_one o.sheet), cc)
+forms [] None at o p h = ([], nothing, grind (arith, nat_tests), cc)
 forms [] (Some k) at o p h = cc
 forms (w ∷ ws) None at o p h = word-form at w ws o p (λ k q. forms ws k (at + 1) q p) (word_of w) (kind w) h
 forms (w ∷ ws) (Some k) at o p h = value-form at w ws o p (λ k q. forms ws k (at + 1) q p) k (fits k.0 w) refl h

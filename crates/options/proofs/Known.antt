@@ -1,5 +1,5 @@
 -- What a word is, and what that counts.
-use Rattle.std.proofs.Common.{◌≡◌, ℕ, ◌+◌, ◌≤◌, Bool, true, false, cond, List, [], ◌∷◌, is_some, Some, None, Option, Result, refl, ap, arith}
+use Rattle.std.proofs.Common.{◌≡◌, ℕ, ◌+◌, Bool, true, false, cond, List, [], ◌∷◌, is_some, Some, None, Option, Result, refl, ap, arith}
 use Rattle.std.specs.Str.{bytes_eq}
 use Rattle.fields.specs.Outcomes.{and_then}
 use Rattle.options.specs.declared.options.OptionFault.{OptionFault}
@@ -74,24 +74,7 @@ kind w = kind-by w (dashed w) (flag_named w) (valued_named w) refl refl refl ref
 
 -- a sheet that is told already counts
 abbrev pub one : Option ℕ → ℕ
-one None = 0
-one (Some place) = 1
-
-pub none_yet : (s : Option ℕ) → one s ≤ 0 → is_some s ≡ false
-none_yet None h = refl
-none_yet (Some place) h = absurd (omega arith)
-
-pub none_told : (s : Option ℕ) → is_some s ≡ false → one s ≡ 0
-none_told None h = refl
-none_told (Some place) h = cc
-
-pub one_told : (s : Option ℕ) → is_some s ≡ true → one s ≡ 1
-one_told None h = cc
-one_told (Some place) h = refl
-
-pub at_most_one : (s : Option ℕ) → one s ≤ 1
-at_most_one None = omega arith
-at_most_one (Some place) = omega arith
+one s = cond (is_some s) 1 0
 
 abbrev pub ready : Options → Reading
 ready o = record { options = o; waiting = None }

@@ -1,6 +1,7 @@
 -- What is refused: the words before are right, and then comes what is not.
-use Rattle.std.proofs.Common.{◌≡◌, ℕ, ◌+◌, ◌<◌, ◌≤◌, Bool, true, false, cond, List, [], ◌∷◌, ◌++◌, length, is_some, Some, None, Ok, Err, Option, sym, refl, ap, arith, length-append}
+use Rattle.std.proofs.Common.{◌≡◌, ℕ, ◌+◌, ◌<◌, ◌≤◌, Bool, true, false, cond, List, [], ◌∷◌, ◌++◌, length, is_some, Some, None, Ok, Err, Option, refl, ap, arith, length-append}
 use Rattle.fields.specs.Outcomes.{and_then, or_fault}
+use Rattle.std.proofs.lemmas.Bool.Decides.{nat_tests}
 use Rattle.options.specs.declared.options.OptionFault.{OptionFault}
 use Rattle.options.specs.declared.options.OptionFault.TheVariants as fault
 use Rattle.options.specs.declared.options.Options.{Options}
@@ -13,7 +14,7 @@ use Rattle.options.specs.Mentions.{Mention, sheet_at, alone, valued_at, fits, to
 use Rattle.options.specs.Bounds.{place_of}
 use Rattle.options.specs.Grammar.{Mentions, nothing, sheet, flag, valued, sheets, Wrong, unknown, no_value, bad_value, second_sheet, Refused}
 use Rattle.options.specs.Reading.{after, by_kind, read_on, options_of}
-use Rattle.options.proofs.Known.{flag-named, valued-named, Kind, kind, one, none_told, one_told, at_most_one, ended, counted, left}
+use Rattle.options.proofs.Known.{flag-named, valued-named, Kind, kind, one, ended, counted, left}
 
 -- from the options `o` on, the words from a place on are refused so
 abbrev Breaks : ℕ → List (List ℕ) → Options → OptionFault → Type 0
@@ -32,12 +33,12 @@ Stops None at ws o f = Breaks at ws o f
 Stops (Some k) at ws o f = Snag k.0 k.1 at o ws f
 
 here : (at : ℕ) (ws : List (List ℕ)) (o : Options) (f : OptionFault) (s : ℕ) → s ≡ one o.sheet → Wrong at s ws f → Breaks at ws o f
-here at ws o f s e x = ([], ws, [], at, s, refl, nothing, omega arith, omega (arith, at_most_one o.sheet), omega arith, x)
+here at ws o f s e x = ([], ws, [], at, s, refl, nothing, omega arith, grind (arith, nat_tests), omega arith, x)
 
 module _ (at : ℕ) (w : List ℕ) (o : Options) where
   behind-sheet : (ws : List (List ℕ)) (f : OptionFault) → is_some o.sheet ≡ false → dashed w ≡ false → Breaks (at + 1) ws (told (sheet_at at ∷ []) o) f → Breaks at (w ∷ ws) o f
   behind-sheet ws f n e (a, b, ms, m, s, p, q, c, l, g, x) =
-      (w ∷ a, b, sheet_at at ∷ ms, m, s, ap (λ y. w ∷ y) p, sheet e q, omega (arith, none_told o.sheet n), l, omega arith, x)
+      (w ∷ a, b, sheet_at at ∷ ms, m, s, ap (λ y. w ∷ y) p, sheet e q, grind (arith, n), l, omega arith, x)
 
   behind-value : (k : Valued) (ws : List (List ℕ)) (f : OptionFault) → w ≡ valued_name k → Snag k at (at + 1) o ws f → Breaks at (w ∷ ws) o f
   behind-value k _ _ e ends = here at (w ∷ []) o (fault.NoValue at) (one o.sheet) refl (no_value k e)
@@ -49,7 +50,7 @@ module _ (at : ℕ) (w : List ℕ) (ws : List (List ℕ)) (o : Options) (f : Opt
   sheet-stops : (b : Bool) → is_some o.sheet ≡ b → dashed w ≡ false → and_then (and_then (cond b (Err (fault.SecondSheet at)) (Ok (after (sheet_at at) o))) (read_on (at + 1) ws)) ended ≡ Err f → Breaks at (w ∷ ws) o f
   sheet-stops true n e h =
       let g : f ≡ fault.SecondSheet at = cc in
-      rw g (here at (w ∷ ws) o (fault.SecondSheet at) 1 (sym (one_told o.sheet n)) (second_sheet e))
+      rw g (here at (w ∷ ws) o (fault.SecondSheet at) 1 (rw n) (second_sheet e))
   sheet-stops false n e h = behind-sheet at w o ws f n e (more None (told (sheet_at at ∷ []) o) h)
 
   word-stops : (x : Option Word) → Kind w x → and_then (and_then (or_fault (fault.Unknown at) x (by_kind o at)) (read_on (at + 1) ws)) ended ≡ Err f → Breaks at (w ∷ ws) o f
