@@ -1,5 +1,5 @@
 -- What is mentioned is read so, and what is read is mentioned.
-use Rattle.std.proofs.Common.{◌≡◌, ℕ, ◌+◌, ◌≤◌, Bool, true, false, cond, List, [], ◌∷◌, is_some, Some, None, Ok, Err, Option, sym, refl, ap, ◌∙◌, arith}
+use Rattle.std.proofs.Common.{◌≡◌, ℕ, ◌+◌, ◌≤◌, Bool, true, false, cond, List, [], ◌∷◌, is_some, Some, None, Ok, Err, Option, refl, arith}
 use Rattle.fields.specs.Outcomes.{and_then, or_fault}
 use Rattle.std.proofs.lemmas.Bool.Decides.{nat_tests}
 use Rattle.options.specs.declared.options.OptionFault.TheVariants as fault
@@ -22,15 +22,13 @@ read-so _ _ _ (sheet {at} {w} {ws} {ms} e m) o h =
     let n : is_some o.sheet ≡ false = grind (arith, nat_tests) in
     rw (e, n) (read-so (at + 1) ws ms m (told (sheet_at at ∷ []) o) (omega arith))
 read-so _ _ _ (flag {at} {w} {ws} {ms} f e m) o h =
-    let x : word_of w ≡ Some (Alone f) = ap word_of e ∙ flag-known f in
-    rw x (read-so (at + 1) ws ms m (told (alone f ∷ []) o) (omega (arith, counted (alone f) ms o (flag-named f))))
+    rw (e, flag-known f) (read-so (at + 1) ws ms m (told (alone f ∷ []) o) (omega (arith, counted (alone f) ms o (flag-named f))))
 read-so _ _ _ (valued {at} {w} {v} {ws} {ms} k e t m) o h =
-    let x : word_of w ≡ Some (Awaits k) = ap word_of e ∙ valued-known k in
     let here : Mention = valued_at k (at + 1) v in
-    rw (x, t) (read-so (at + 1 + 1) ws ms m (told (here ∷ []) o) (omega (arith, counted here ms o (valued-named k))))
+    rw (e, valued-known k, t) (read-so (at + 1 + 1) ws ms m (told (here ∷ []) o) (omega (arith, counted here ms o (valued-named k))))
 
 pub each : (words : List (List ℕ)) (o : Options) → Asked words o → options_of words ≡ Ok o
-each words o (ms, m, h, e) = ap (λ r. and_then r ended) (read-so 0 words ms m defaults (omega arith)) ∙ ap (λ p. Ok p) (sym e)
+each words o (ms, m, h, e) = rw (read-so 0 words ms m defaults (omega arith), e) refl
 
 -- WHAT IS READ IS MENTIONED
 
