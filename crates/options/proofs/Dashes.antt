@@ -4,12 +4,12 @@ use Rattle.std.specs.List.{position, position_or_len}
 use Rattle.std.specs.Option.{option_zip}
 use Rattle.std.proofs.lemmas.Bool.Decides.{nat_tests}
 use Rattle.std.proofs.lemmas.List.Sums.{prefix_len-le-length}
-use Rattle.fields.proofs.Fields.{counted}
+use Rattle.std.proofs.lemmas.List.Recursion.{is_position_or_len}
 use Rattle.options.specs.Values.{dash_at, address_in, addresses_in}
 
 module _ (w : List ℕ) where
   dash-counted : dash_at w ≡ position_or_len (λ b. eqb b 45) w
-  dash-counted = counted dash_at (λ b. eqb b 45) refl (λ b bs. refl) w
+  dash-counted = is_position_or_len dash_at (λ b. eqb b 45) refl (λ b bs. grind arith) w
 
   -- the addresses on both sides of the first `-`
   pub around : (n : ℕ) → position (λ b. eqb b 45) w ≡ Some n → addresses_in w ≡ option_zip (address_in (take n w)) (address_in (drop (n + 1) w))

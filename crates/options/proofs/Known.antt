@@ -1,5 +1,5 @@
 -- What a word is, and what that counts.
-use Rattle.std.proofs.Common.{◌≡◌, ℕ, ◌+◌, ◌≤◌, Bool, true, false, cond, List, [], ◌∷◌, is_some, Some, None, Option, Result, sym, refl, ap, ◌∙◌, arith}
+use Rattle.std.proofs.Common.{◌≡◌, ℕ, ◌+◌, Bool, true, false, cond, List, [], ◌∷◌, is_some, Some, None, Option, Result, refl, ap, arith}
 use Rattle.std.specs.Str.{bytes_eq}
 use Rattle.fields.specs.Outcomes.{and_then}
 use Rattle.options.specs.declared.options.OptionFault.{OptionFault}
@@ -10,7 +10,7 @@ use Rattle.options.specs.declared.word.Flag.TheVariants.{Clock, Both, Trace, Tim
 use Rattle.options.specs.declared.word.Valued.{Valued}
 use Rattle.options.specs.declared.word.Valued.TheVariants.{Image, Save, Script, Input, From, Cycles, Clocks, Wait, Paper, Examine}
 use Rattle.options.specs.declared.word.Word.{Word}
-use Rattle.options.specs.declared.word.Word.TheVariants.{Sheet, Alone, Awaits, Unknown}
+use Rattle.options.specs.declared.word.Word.TheVariants.{Sheet, Alone, Awaits}
 use Rattle.options.specs.Names.{flag_name, valued_name, flags, valueds, flag_named, valued_named, option_by, dashed, word_of}
 use Rattle.options.specs.Mentions.{Mention, told}
 use Rattle.options.specs.Grammar.{sheets}
@@ -18,7 +18,7 @@ use Rattle.options.specs.Reading.{read_on, finished}
 use Rattle.options.proofs.Named.{found}
 
 -- each name is known for what it names, and is not empty
-pub flag-known : (f : Flag) → word_of (flag_name f) ≡ Alone f
+pub flag-known : (f : Flag) → word_of (flag_name f) ≡ Some (Alone f)
 flag-known Clock = refl
 flag-known Both = refl
 flag-known Trace = refl
@@ -32,7 +32,7 @@ flag-named Trace = refl
 flag-named Time = refl
 flag-named Help = refl
 
-pub valued-known : (k : Valued) → word_of (valued_name k) ≡ Awaits k
+pub valued-known : (k : Valued) → word_of (valued_name k) ≡ Some (Awaits k)
 valued-known Image = refl
 valued-known Save = refl
 valued-known Script = refl
@@ -57,53 +57,24 @@ valued-named Paper = refl
 valued-named Examine = refl
 
 -- what a word is tells its bytes
-abbrev pub Kind : List ℕ → Word → Type 0
-Kind w Sheet = dashed w ≡ false
-Kind w (Alone f) = w ≡ flag_name f
-Kind w (Awaits k) = w ≡ valued_name k
-Kind w Unknown = (dashed w ≡ true) × ((f : Flag) → w ≡ flag_name f → ⊥) × ((k : Valued) → w ≡ valued_name k → ⊥)
+abbrev pub Kind : List ℕ → Option Word → Type 0
+Kind w (Some Sheet) = dashed w ≡ false
+Kind w (Some (Alone f)) = w ≡ flag_name f
+Kind w (Some (Awaits k)) = w ≡ valued_name k
+Kind w None = (dashed w ≡ true) × ((f : Flag) → w ≡ flag_name f → ⊥) × ((k : Valued) → w ≡ valued_name k → ⊥)
 
-not_flag : (w : List ℕ) (f : Flag) → word_of w ≡ Unknown → w ≡ flag_name f → ⊥
-not_flag w f x e =
-    let y : Alone f ≡ Unknown = sym (flag-known f) ∙ sym (ap word_of e) ∙ x in
-    let z : ◌≡◌ {A = ℕ} 0 1 = cc in
-    omega arith
-
-not-valued : (w : List ℕ) (k : Valued) → word_of w ≡ Unknown → w ≡ valued_name k → ⊥
-not-valued w k x e =
-    let y : Awaits k ≡ Unknown = sym (valued-known k) ∙ sym (ap word_of e) ∙ x in
-    let z : ◌≡◌ {A = ℕ} 0 1 = cc in
-    omega arith
-
-kind-by : (w : List ℕ) (b : Bool) (f : Option Flag) (k : Option Valued) → dashed w ≡ b → flag_named w ≡ f → valued_named w ≡ k → word_of w ≡ cond b (option_by f k) Sheet → Kind w (cond b (option_by f k) Sheet)
+kind-by : (w : List ℕ) (b : Bool) (f : Option Flag) (k : Option Valued) → dashed w ≡ b → flag_named w ≡ f → valued_named w ≡ k → word_of w ≡ cond b (option_by f k) (Some Sheet) → Kind w (cond b (option_by f k) (Some Sheet))
 kind-by w false f k d e g x = d
 kind-by w true (Some f) k d e g x = found flag_name flags w f e
 kind-by w true None (Some k) d e g x = found valued_name valueds w k g
-kind-by w true None None d e g x = (d, λ f. not_flag w f x, λ k. not-valued w k x)
+kind-by w true None None d e g x = (d, λ f h. cc (flag-known f, ap word_of h), λ k h. cc (valued-known k, ap word_of h))
 
 pub kind : (w : List ℕ) → Kind w (word_of w)
 kind w = kind-by w (dashed w) (flag_named w) (valued_named w) refl refl refl refl
 
 -- a sheet that is told already counts
 abbrev pub one : Option ℕ → ℕ
-one None = 0
-one (Some place) = 1
-
-pub none_yet : (s : Option ℕ) → one s ≤ 0 → is_some s ≡ false
-none_yet None h = refl
-none_yet (Some place) h = absurd (omega arith)
-
-pub none_told : (s : Option ℕ) → is_some s ≡ false → one s ≡ 0
-none_told None h = refl
-none_told (Some place) h = absurd (let z : ◌≡◌ {A = ℕ} 0 1 = cc in omega arith)
-
-pub one_told : (s : Option ℕ) → is_some s ≡ true → one s ≡ 1
-one_told None h = absurd (let z : ◌≡◌ {A = ℕ} 0 1 = cc in omega arith)
-one_told (Some place) h = refl
-
-pub at_most_one : (s : Option ℕ) → one s ≤ 1
-at_most_one None = omega arith
-at_most_one (Some place) = omega arith
+one s = cond (is_some s) 1 0
 
 abbrev pub ready : Options → Reading
 ready o = record { options = o; waiting = None }

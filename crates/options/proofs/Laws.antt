@@ -14,9 +14,9 @@ pub form : (words : List (List ℕ)) (r : Result Options OptionFault) → r ≡ 
 form words (Ok o) e = asked words o (sym e)
 form words (Err f) e = refused words f (sym e)
 
-bytes-within : (words : List (List ℕ)) (r : Result Options OptionFault) → r ≡ options_of words → Within (length words) r
-bytes-within words (Ok o) e = sound words o (asked words o (sym e))
-bytes-within words (Err f) e = refused-within words f (refused words f (sym e))
+bytes-within : (words : List (List ℕ)) (r : Result Options OptionFault) → MatchResult r (Asked words) (Refused words) → Within (length words) r
+bytes-within words (Ok o) a = sound words o a
+bytes-within words (Err f) a = refused-within words f a
 
 pub within : {Z : Type 0} (words : List (String Z)) (r : Result Options OptionFault) → r ≡ options_of (bytes_of words) → Within (length words) r
-within words r e = rw (length-map words string_bytes) at (bytes-within (bytes_of words) r e)
+within words r e = rw (length-map words string_bytes) at (bytes-within (bytes_of words) r (form (bytes_of words) r e))

@@ -1,6 +1,5 @@
 pub mod Named
 pub mod Dashes
-pub mod Turns
 pub mod Known
 pub mod Grammar
 pub mod Refusals

@@ -6,7 +6,7 @@ use Rattle.options.specs.declared.word.Flag.TheVariants.{Clock, Both, Trace, Tim
 use Rattle.options.specs.declared.word.Valued.{Valued}
 use Rattle.options.specs.declared.word.Valued.TheVariants.{Image, Save, Script, Input, From, Cycles, Clocks, Wait, Paper, Examine}
 use Rattle.options.specs.declared.word.Word.{Word}
-use Rattle.options.specs.declared.word.Word.TheVariants.{Sheet, Alone, Awaits, Unknown}
+use Rattle.options.specs.declared.word.Word.TheVariants.{Sheet, Alone, Awaits}
 
 -- options that stand alone
 abbrev pub flag_name : Flag → List ℕ
@@ -46,15 +46,15 @@ flag_named w = named flag_name flags w
 abbrev pub valued_named : List ℕ → Option Valued
 valued_named w = named valued_name valueds w
 
-abbrev pub option_by : Option Flag → Option Valued → Word
-option_by (Some flag) valued = Alone flag
-option_by None (Some valued) = Awaits valued
-option_by None None = Unknown
+abbrev pub option_by : Option Flag → Option Valued → Option Word
+option_by (Some flag) valued = Some (Alone flag)
+option_by None (Some valued) = Some (Awaits valued)
+option_by None None = None
 
 -- whether a word begins with `-`
 abbrev pub dashed : List ℕ → Bool
 dashed w = slice_index w 0 == 45
 
--- a word that begins with `-` is an option, any other the sheet
-abbrev pub word_of : List ℕ → Word
-word_of w = cond (dashed w) (option_by (flag_named w) (valued_named w)) Sheet
+-- a word that begins with `-` is an option, if one has this name; any other is the sheet
+abbrev pub word_of : List ℕ → Option Word
+word_of w = cond (dashed w) (option_by (flag_named w) (valued_named w)) (Some Sheet)

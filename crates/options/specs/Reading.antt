@@ -1,13 +1,13 @@
 -- Reading the words from the left: which are options, which are values, which is the sheet.
 use Rattle.std.specs.Prelude.{ℕ, ◌+◌, cond, List, [], ◌∷◌, map, is_some, Some, None, Ok, Err, string_bytes, Option, Result, String}
-use Rattle.fields.specs.Outcomes.{and_then}
+use Rattle.fields.specs.Outcomes.{and_then, or_fault}
 use Rattle.options.specs.declared.options.OptionFault.{OptionFault}
 use Rattle.options.specs.declared.options.OptionFault.TheVariants as fault
 use Rattle.options.specs.declared.options.Options.{Options}
 use Rattle.options.specs.declared.reading.Reading.{Reading}
 use Rattle.options.specs.declared.word.Valued.{Valued}
 use Rattle.options.specs.declared.word.Word.{Word}
-use Rattle.options.specs.declared.word.Word.TheVariants.{Sheet, Alone, Awaits, Unknown}
+use Rattle.options.specs.declared.word.Word.TheVariants.{Sheet, Alone, Awaits}
 use Rattle.options.specs.Options.{defaults}
 use Rattle.options.specs.Names.{word_of}
 use Rattle.options.specs.Mentions.{Mention, sheet_at, alone, valued_at, fits, told}
@@ -16,15 +16,15 @@ use Rattle.options.specs.Mentions.{Mention, sheet_at, alone, valued_at, fits, to
 abbrev pub after : Mention → Options → Reading
 after m o = record { options = told (m ∷ []) o; waiting = None }
 
--- the word at a place, where no value is due
+-- the word at a place, where no value is due, by what it is
 abbrev pub by_kind : Options → ℕ → Word → Result Reading OptionFault
 by_kind o at Sheet = cond (is_some o.sheet) (Err (fault.SecondSheet at)) (Ok (after (sheet_at at) o))
 by_kind o at (Alone flag) = Ok (after (alone flag) o)
 by_kind o at (Awaits valued) = Ok (record { options = o; waiting = Some (valued, at) })
-by_kind o at Unknown = Err (fault.Unknown at)
 
+-- the same by its bytes, if it is anything
 abbrev pub by_word : Options → ℕ → List ℕ → Result Reading OptionFault
-by_word o at w = by_kind o at (word_of w)
+by_word o at w = or_fault (fault.Unknown at) (word_of w) (by_kind o at)
 
 -- the value of an option
 abbrev pub by_value : Options → Valued → ℕ → List ℕ → Result Reading OptionFault

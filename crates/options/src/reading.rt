@@ -20,12 +20,11 @@ pub(crate) struct Reading {
 fn read_word(options: Options, place: usize, word: &str) -> Result<Reading, OptionFault>
     ensures { result ≡ by_word options place word.now }
 {
-    let (options, waiting) = match word_of(word) {
+    let (options, waiting) = match word_of(word).ok_or(OptionFault::Unknown(place))? {
         Word::Sheet if options.sheet.is_some() => return Err(OptionFault::SecondSheet(place)),
         Word::Sheet => (with_sheet(options, place), None),
         Word::Alone(flag) => (with_flag(options, flag), None),
         Word::Awaits(valued) => (options, Some((valued, place))),
-        Word::Unknown => return Err(OptionFault::Unknown(place)),
     };
     Ok(Reading { options, waiting })
 }

@@ -33,7 +33,6 @@ pub(crate) enum Word {
     Sheet,
     Alone(Flag),
     Awaits(Valued),
-    Unknown,
 }
 
 /// The option that stands alone of this name.
@@ -69,16 +68,15 @@ fn valued_named(word: &str) -> Option<Valued>
     }
 }
 
-/// What a word is: an option begins with `-`, anything else is the sheet.
-pub(crate) fn word_of(word: &str) -> Word
+/// What a word is: an option begins with `-`, anything else is the sheet; none where no option has this name.
+pub(crate) fn word_of(word: &str) -> Option<Word>
     ensures { result ≡ word_of word.now }
 {
     let [b'-', ..] = word.as_bytes() else {
-        return Word::Sheet;
+        return Some(Word::Sheet);
     };
-    match (flag_named(word), valued_named(word)) {
-        (Some(flag), _) => Word::Alone(flag),
-        (None, Some(valued)) => Word::Awaits(valued),
-        (None, None) => Word::Unknown,
+    match flag_named(word) {
+        Some(flag) => Some(Word::Alone(flag)),
+        None => Some(Word::Awaits(valued_named(word)?)),
     }
 }
