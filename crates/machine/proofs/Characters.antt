@@ -55,21 +55,18 @@ all-proper [] b h = h
 all-proper (x ∷ xs) b h = all-proper xs (on_clocked x b).after (call-proper x b h)
 
 -- a character arrives
-nothing : {ch : ℕ} → ◌≡◌ {A = Option ℕ} None (Some ch) → ⊥
-nothing e = true≢false (ap arrived (sym e))
-
 by_clock : (o : Option ℕ) (b : ClockBoard) (ch : ℕ) → Proper b.rule
     → cond (granted o) (handed_in_beat (connection (moved b))) None ≡ Some ch
     → Holds (unless o b (clock_granted Clock b)).after ch
 by_clock None b ch h e = beat-brings (connection (moved b)) ch h e
-by_clock (Some f) b ch h e = absurd (nothing e)
+by_clock (Some f) b ch h e = cc
 
 brings : (x : Call) (b : ClockBoard) (ch : ℕ) → Proper b.rule → brought x b ≡ Some ch → Holds (on_clocked x b).after ch
 brings Clock b ch h e = by_clock (turned_down Clock (size b.contents) b.registers.s) b ch h e
-brings Start b ch h e = absurd (nothing e)
-brings (Aim a) b ch h e = absurd (nothing e)
-brings (Deposit a w) b ch h e = absurd (nothing e)
-brings (Examine a) b ch h e = absurd (nothing e)
+brings Start b ch h e = cc
+brings (Aim a) b ch h e = cc
+brings (Deposit a w) b ch h e = cc
+brings (Examine a) b ch h e = cc
 
 pub character_stays : CharacterStays
 character_stays contents rule h before x later ch e quiet =

@@ -12,8 +12,7 @@ use Rattle.machine.proofs.References.{addressing, raised-2, raised-3, raised-4, 
 use Rattle.machine.proofs.Marks.{marks-end, interrupt-ends}
 
 below : (i : Bool) (x y : ℕ) → cond i (low12 x) (low12 y) < 4096
-below true x y = mod-lt x (lit< tt)
-below false x y = mod-lt y (lit< tt)
+below i x y = grind arith
 
 module _ (b : ClockBoard) (h : b.registers.pc < 4096) where
   abbrev w : ℕ

@@ -55,16 +55,13 @@ early (suc (suc zero)) d b h u = (rw u, rw u, refl, rw u)
 early (suc (suc (suc t))) d b h u = absurd (omega arith)
 
 sc-cleared : (c : Bool) (t : ℕ) → cond c 0 (t + 1) ≡ 0 → c ≡ true
-sc-cleared true t e = refl
-sc-cleared false t e = absurd (omega (arith, e))
+sc-cleared c t e = grind arith
 
 goes_on : (c : Bool) (t : ℕ) → cond c (t + 1) 0 ≡ 0 → c ≡ false
-goes_on true t e = absurd (omega (arith, e))
-goes_on false t e = refl
+goes_on c t e = grind arith
 
 ends_so : (c : Bool) (t k : ℕ) → cond c (t + 1) 0 ≡ suc k → cond c 0 (t + 1) ≡ 0
-ends_so true t k e = refl
-ends_so false t k e = absurd (omega (arith, e))
+ends_so c t k e = grind arith
 
 down : (b : ClockBoard) → b.registers.sc < 3 → Waiting b → b.registers.r ≡ false
 down b h w = elim w.2 [ inl u ↦ u | inr k ↦ absurd (omega arith) ]

@@ -24,12 +24,7 @@ record Reached (sc d : ℕ) : Type 0 where
 
 -- up to T3 with any opcode
 soon : (t d : ℕ) → t ≤ 3 → Reached t d
-soon t d h = record {
-  sc_fits = omega arith;
-  at_four = λ e. absurd (omega arith);
-  at_five = λ e. absurd (omega arith);
-  at_six = λ e. absurd (omega arith);
-}
+soon t d h = grind arith
 
 at-2 : (b : Bool) (d : ℕ) → Reached (cond b 0 3) d
 at-2 true d = soon 0 d (lit≤ tt)
@@ -53,7 +48,7 @@ at_3 d c h =
 
 -- T4 goes on with opcodes 0, 1, 2, 5 and 6
 goes-to-5 : (d : ℕ) → reaches_t5 d ≡ true → Reached 5 d
-goes-to-5 d e = record { sc_fits = lit≤ tt; at_four = λ x. absurd (omega arith); at_five = λ x. e; at_six = λ x. absurd (omega arith) }
+goes-to-5 d e = grind arith
 
 at_4 : (d : ℕ) (c : Registers) → d < 7 → Reached (cond (sc_clear 4 d c) 0 5) d
 at_4 zero c h = goes-to-5 0 refl
@@ -70,12 +65,11 @@ at_5 : (d : ℕ) (c : Registers) → d < 8 → reaches_t5 d ≡ true → Reached
 at_5 zero c h e = soon 0 0 (lit≤ tt)
 at_5 (suc zero) c h e = soon 0 1 (lit≤ tt)
 at_5 (suc (suc zero)) c h e = soon 0 2 (lit≤ tt)
-at_5 (suc (suc (suc zero))) c h e = absurd (true≢false (sym e))
-at_5 (suc (suc (suc (suc zero)))) c h e = absurd (true≢false (sym e))
+at_5 (suc (suc (suc zero))) c h e = cc
+at_5 (suc (suc (suc (suc zero)))) c h e = cc
 at_5 (suc (suc (suc (suc (suc zero))))) c h e = soon 0 5 (lit≤ tt)
-at_5 (suc (suc (suc (suc (suc (suc zero)))))) c h e =
-    record { sc_fits = lit≤ tt; at_four = λ x. absurd (omega arith); at_five = λ x. absurd (omega arith); at_six = λ x. refl }
-at_5 (suc (suc (suc (suc (suc (suc (suc zero))))))) c h e = absurd (true≢false (sym e))
+at_5 (suc (suc (suc (suc (suc (suc zero)))))) c h e = grind arith
+at_5 (suc (suc (suc (suc (suc (suc (suc zero))))))) c h e = cc
 at_5 (suc (suc (suc (suc (suc (suc (suc (suc d)))))))) c h e = absurd (omega arith)
 
 at-6 : (d : ℕ) (c : Registers) → d ≡ 6 → Reached (cond (sc_clear 6 d c) 0 7) d
@@ -95,15 +89,11 @@ next-reached (suc (suc (suc (suc (suc (suc (suc t))))))) d c x b h k = absurd (o
 
 -- what a register takes is within its bound
 register-below : (a b : Bool) (x : ℕ) (i : Bool) (y z n : ℕ) → 0 < n → x < n → y < n → z < n → register a b x i y z < n
-register-below true b x i y z n h p q r = h
-register-below false true x i y z n h p q r = p
-register-below false false x true y z n h p q r = q
-register-below false false x false y z n h p q r = r
+register-below a b x i y z n h p q r = grind arith
 
 -- only a register-reference clock lowers S, and it ends a cycle
 lowered : (x b s : Bool) → s ≡ true → cond (x && b) false s ≡ false → x ≡ true
-lowered true b s e h = refl
-lowered false b s e h = absurd (both_ways s h e)
+lowered x b s e h = grind arith
 
 module _ (c : Registers) (x : ℕ) where
   abbrev t : ℕ

@@ -1,5 +1,6 @@
 -- The readings.
 use Rattle.std.proofs.Common.{◌≡◌, ℕ, ◌<◌, Bool, true, false, ◌||◌, eqb, sym, refl, subst, lit<}
+use Rattle.std.proofs.lemmas.Bool.{or_right}
 use Rattle.memory.specs.Contents.{Contents, size, fetched}
 use Rattle.memory.proofs.Contents.{fetched-here}
 use Rattle.line.specs.Rules.{Rule}
@@ -28,10 +29,6 @@ leaves w k b P h e q =
 -- a flag that is up stays up over three beats
 flag-stays : (x : Connection) → flagged x.port ≡ true → flagged (beats 3 x).port ≡ true
 flag-stays x h = keeps-flag (beats 2 x) (keeps-flag (beat x) (keeps-flag x h))
-
-fgo-flags : (f g : Bool) → g ≡ true → (f || g) ≡ true
-fgo-flags true g e = refl
-fgo-flags false g e = e
 
 module _ (b : ClockBoard) where
   -- a memory of another size
@@ -83,7 +80,7 @@ module _ (b : ClockBoard) where
       → Leaves 4 b (λ t. (t.visible.ien ≡ false) × (t.visible.r ≡ true))
   iof h i f =
       leaves 0xF040 4 b (λ t. (t.visible.ien ≡ false) × (t.visible.r ≡ true)) h (rw (h.no_interrupt, h.word))
-      (rw (h.no_interrupt, h.word, i) (refl, flag-stays (connection b) (fgo-flags b.registers.port.fgi b.registers.port.fgo f)))
+      (rw (h.no_interrupt, h.word, i) (refl, flag-stays (connection b) (or_right b.registers.port.fgi b.registers.port.fgo f)))
 
   ion : Next 0xF080 b → b.registers.ien ≡ false → b.registers.port.fgo ≡ true
       → Leaves 4 b (λ t. (t.visible.ien ≡ true) × (t.visible.r ≡ false))

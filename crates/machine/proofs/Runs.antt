@@ -14,14 +14,7 @@ use Rattle.machine.proofs.Twins.{cycle-granted-is}
 -- a cycle keeps the size of the memory
 row-size : (a b c d e f g : Bool) (w : ℕ) (x : CycleBoard)
     → size ((cond a AND (cond b ADD (cond c LDA (cond d STA (cond e BUN (cond f BSA (cond g ISZ MARKS))))))).effect w x).contents ≡ size x.contents
-row-size true b c d e f g w x = refl
-row-size false true c d e f g w x = refl
-row-size false false true d e f g w x = refl
-row-size false false false true e f g w x = size-stored x.contents _ _
-row-size false false false false true f g w x = refl
-row-size false false false false false true g w x = size-stored x.contents _ _
-row-size false false false false false false true w x = size-stored x.contents _ _
-row-size false false false false false false false w x = refl
+row-size a b c d e f g w x = grind (arith, size-stored)
 
 effect-size : (r : Bool) (d w : ℕ) (x y : CycleBoard) → y.contents ≡ x.contents
     → size (cond r (interrupted x) (executed d w y)).contents ≡ size x.contents

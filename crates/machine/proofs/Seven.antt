@@ -23,8 +23,7 @@ few-answer zero h = tt
 few-answer (suc n) h = h
 
 few-clocks : (c : Bool) (t : ℕ) → t ≤ 6 → cond c (t + 1) 0 ≤ 7
-few-clocks true t h = omega arith
-few-clocks false t h = omega arith
+few-clocks c t h = grind arith
 
 call-few : (x : Call) (b : ClockBoard) → Sound b.registers → Few (step x (on_clocked x b).outcome)
 call-few Clock b h =

@@ -24,8 +24,7 @@ clock-pc : (b : ClockBoard) → b.registers.pc < 4096 → (clocked b).registers.
 clock-pc b h = next-pc-fits b.registers (bus_word b.registers.sc (opcode b.registers.ir) b) h
 
 write-size : (w : Bool) (contents : Contents) (a x : ℕ) → size (cond w (stored contents a x) contents) ≡ size contents
-write-size true contents a x = size-stored contents a x
-write-size false contents a x = refl
+write-size w contents a x = grind (arith, size-stored)
 
 pub clock-size : (b : ClockBoard) → size (clocked b).contents ≡ size b.contents
 clock-size b = write-size _ b.contents b.registers.ar _
