@@ -13,7 +13,7 @@ use Rattle.machine.specs.Calls.{turned_down, unless, clock_granted, on_clocked}
 use Rattle.machine.specs.Lists.{after_all}
 use Rattle.machine.specs.Laws.{granted, handed_in_beat, brought, takes_input, NoInputTaken, CharacterStays}
 use Rattle.machine.proofs.Beat.{Holding, beat-holds, beat-brings, beat-proper}
-use Rattle.machine.proofs.Calls.{call-cases, after_both}
+use Rattle.machine.proofs.Calls.{call-cases, by-call, after_both}
 
 abbrev Holds : ClockBoard → ℕ → Type 0
 Holds b character = Holding (connection b) character
@@ -44,11 +44,8 @@ calls-hold (x ∷ xs) b ch e h = calls-hold xs (on_clocked x b).after ch e.1 (ca
 
 -- the rule of the line stays proper
 call-proper : (x : Call) (b : ClockBoard) → Proper b.rule → Proper (on_clocked x b).after.rule
-call-proper Clock b h = call-cases Clock b (λ k. Proper k.after.rule) (λ f. h) (λ g. beat-proper (connection (moved b)) h)
-call-proper Start b h = call-cases Start b (λ k. Proper k.after.rule) (λ f. h) (λ g. h)
-call-proper (Aim a) b h = call-cases (Aim a) b (λ k. Proper k.after.rule) (λ f. h) (λ g. h)
-call-proper (Deposit a w) b h = call-cases (Deposit a w) b (λ k. Proper k.after.rule) (λ f. h) (λ g. h)
-call-proper (Examine a) b h = call-cases (Examine a) b (λ k. Proper k.after.rule) (λ f. h) (λ g. h)
+call-proper x b h =
+    by-call x b (λ now c. Proper c.rule) h (λ s. beat-proper (connection (moved b)) h) (λ pc s contents f p. h)
 
 pub all-proper : (xs : List Call) (b : ClockBoard) → Proper b.rule → Proper (after_all on_clocked xs b).rule
 all-proper [] b h = h

@@ -1,7 +1,7 @@
 -- Every call keeps the registers of the clocked computer sound.
 use Rattle.std.proofs.Common.{◌≡◌, ℕ, zero, suc, ◌+◌, ◌/◌, ◌<◌, ◌≤◌, Bool, true, false, cond, ◌&&◌, List, [], ◌∷◌, sym, refl, subst, inl, inr, true≢false, mod-lt, arith, lit<, lit≤}
 use Rattle.std.proofs.lemmas.Bool.{ne_eqb, cases_eq, or_left, or_right, both_ways, cond-true}
-use Rattle.memory.specs.Contents.{size, fetched}
+use Rattle.memory.specs.Contents.{Contents, fetched}
 use Rattle.machine.specs.declared.registers.Registers.{Registers}
 use Rattle.machine.specs.declared.call.Call.{Call}
 use Rattle.machine.specs.declared.call.Call.TheVariants.{Clock, Start, Aim, Deposit, Examine}
@@ -10,10 +10,10 @@ use Rattle.machine.specs.Boards.{ClockBoard, new_clock_board, new_registers, rea
 use Rattle.machine.specs.Gates.{r, bus, ar_load, ar_clear, ar_increment, pc_load, pc_clear, pc_increment, skip, sc_clear, T, B}
 use Rattle.machine.specs.Parts.{register}
 use Rattle.machine.specs.Clock.{transferred_at, transferred, clocked}
-use Rattle.machine.specs.Calls.{on_clocked}
+use Rattle.machine.specs.Calls.{with_panel, on_clocked}
 use Rattle.machine.specs.Lists.{after_all}
 use Rattle.machine.specs.Laws.{InvariantKept}
-use Rattle.machine.proofs.Calls.{call-cases, clock-granted-when, aim-granted-when}
+use Rattle.machine.proofs.Calls.{by-call}
 
 -- where SC may stand
 record Reached (sc d : ℕ) : Type 0 where
@@ -150,44 +150,21 @@ clock-sound b e h =
     }
 
 -- a call keeps them sound
+pub panel-sound : (b : ClockBoard) (pc : ℕ) (s : Bool) (contents : Contents) → b.registers.s ≡ false
+    → (b.registers.pc < 4096 → pc < 4096) → Sound b.registers → Sound (with_panel pc s contents b).registers
+panel-sound b pc s contents f p h = record {
+  ar_fits = h.ar_fits;
+  pc_fits = p h.pc_fits;
+  sc_fits = h.sc_fits;
+  at_rest = λ u. h.at_rest f;
+  at_four = h.at_four;
+  at_five = h.at_five;
+  at_six = h.at_six;
+}
+
 pub call-sound : (x : Call) (b : ClockBoard) → Sound b.registers → Sound (on_clocked x b).after.registers
-call-sound Clock b h =
-    call-cases Clock b (λ k. Sound k.after.registers) (λ f. h)
-    (λ e. clock-sound b (clock-granted-when (size b.contents) b.registers.s e).1 h)
-call-sound Start b h =
-    call-cases Start b (λ k. Sound k.after.registers) (λ f. h)
-    (λ e. record {
-      ar_fits = h.ar_fits;
-      pc_fits = h.pc_fits;
-      sc_fits = h.sc_fits;
-      at_rest = λ u. absurd (true≢false u);
-      at_four = h.at_four;
-      at_five = h.at_five;
-      at_six = h.at_six;
-    })
-call-sound (Aim a) b h =
-    call-cases (Aim a) b (λ k. Sound k.after.registers) (λ f. h)
-    (λ e. record {
-      ar_fits = h.ar_fits;
-      pc_fits = (aim-granted-when a (size b.contents) b.registers.s e).0;
-      sc_fits = h.sc_fits;
-      at_rest = h.at_rest;
-      at_four = h.at_four;
-      at_five = h.at_five;
-      at_six = h.at_six;
-    })
-call-sound (Deposit a w) b h =
-    call-cases (Deposit a w) b (λ k. Sound k.after.registers) (λ f. h)
-    (λ e. record {
-      ar_fits = h.ar_fits;
-      pc_fits = h.pc_fits;
-      sc_fits = h.sc_fits;
-      at_rest = h.at_rest;
-      at_four = h.at_four;
-      at_five = h.at_five;
-      at_six = h.at_six;
-    })
-call-sound (Examine a) b h = call-cases (Examine a) b (λ k. Sound k.after.registers) (λ f. h) (λ e. h)
+call-sound x b h =
+    by-call x b (λ now c. Sound c.registers) h (λ e. clock-sound b e h) (λ pc s contents f p. panel-sound b pc s contents f p h)
 
 pub all_sound : (xs : List Call) (b : ClockBoard) → Sound b.registers → Sound (after_all on_clocked xs b).registers
 all_sound [] b h = h
