@@ -106,22 +106,13 @@ cycle-agrees b p q h = by-r b.registers.r refl
 abbrev SomeClocks : ℕ → Type 0
 SomeClocks k = (j : ℕ) × (k ≡ suc j) × (k ≤ 7)
 
-row-clocks : (a b c d e f g : Bool)
-    → SomeClocks (cond a AND (cond b ADD (cond c LDA (cond d STA (cond e BUN (cond f BSA (cond g ISZ MARKS))))))).clocks
-row-clocks true b c d e f g = (5, refl, lit≤ tt)
-row-clocks false true c d e f g = (5, refl, lit≤ tt)
-row-clocks false false true d e f g = (5, refl, lit≤ tt)
-row-clocks false false false true e f g = (4, refl, lit≤ tt)
-row-clocks false false false false true f g = (4, refl, lit≤ tt)
-row-clocks false false false false false true g = (5, refl, lit≤ tt)
-row-clocks false false false false false false true = (6, refl, lit≤ tt)
-row-clocks false false false false false false false = (3, refl, lit≤ tt)
-
-or-three : (r : Bool) (k : ℕ) → SomeClocks k → SomeClocks (cond r 3 k)
-or-three true k x = (2, refl, lit≤ tt)
-or-three false k x = x
+between : (r a b c d e f g : Bool)
+    → let k = cond r 3 (cond a AND (cond b ADD (cond c LDA (cond d STA (cond e BUN (cond f BSA (cond g ISZ MARKS))))))).clocks in
+    (0 < k) × (k ≤ 7)
+between r a b c d e f g = grind arith
 
 pub some-clocks : (t : CycleBoard) → SomeClocks (clocks t)
 some-clocks t =
     let d = opcode (fetched t.contents t.visible.pc) in
-    or-three t.visible.r (row d).clocks (row-clocks (eqb d 0) (eqb d 1) (eqb d 2) (eqb d 3) (eqb d 4) (eqb d 5) (eqb d 6))
+    let h = between t.visible.r (eqb d 0) (eqb d 1) (eqb d 2) (eqb d 3) (eqb d 4) (eqb d 5) (eqb d 6) in
+    (clocks t - 1, omega (arith, h), h.1)

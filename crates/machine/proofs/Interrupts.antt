@@ -67,7 +67,7 @@ down : (b : ClockBoard) → b.registers.sc < 3 → Waiting b → b.registers.r �
 down b h w = elim w.2 [ inl u ↦ u | inr k ↦ absurd (omega arith) ]
 
 flag-after : (x : Connection) (port : Port) → flagged x.port ≡ true → port ≡ (beat x).port → flagged port ≡ true
-flag-after x port f e = subst (λ (q : Port). flagged q ≡ true) (sym e) (keeps-flag x f)
+flag-after x port f e = rw e (keeps-flag x f)
 
 next-sc : (c : Bool) (t : ℕ) → c ≡ false → 3 ≤ t → 3 ≤ cond c 0 (t + 1)
 next-sc c t e h = rw e (omega arith)

@@ -56,7 +56,7 @@ seven-at-most-by-cycles (x ∷ xs) t = (call-few-by-cycles x t, seven-at-most-by
 
 -- SC counts the clocks of the cycle under way, and at 6 a clock ends it
 last : (d : ℕ) (c : Registers) → d ≡ 6 → sc_clear 6 d c ≡ true
-last d c e = subst (λ (x : ℕ). sc_clear 6 x c ≡ true) (sym e) refl
+last d c e = rw e
 
 below-six : (t d : ℕ) (c : Registers) → t ≤ 6 → (t ≡ 6 → d ≡ 6) → sc_clear t d c ≡ false → t < 6
 below-six t d c h k e =

@@ -51,12 +51,6 @@ Goes i xs b t =
     × (inside_at_end i (made on_clocked xs b) ≡ false
     → seen (after_all on_clocked xs b) ≡ after_all on_cycled (calls_of (short_list i (made on_clocked xs b))) t)
 
--- `rest` is the short list of what comes after the call m, which is struck out or not
-abbrev GoesOn : Bool → Made → List Made → Bool → ClockBoard → CycleBoard → Type 0
-GoesOn out m rest inside b t =
-    (made on_cycled (calls_of (cond out rest (m ∷ rest))) t ≡ cond out rest (m ∷ rest))
-    × (inside ≡ false → seen b ≡ after_all on_cycled (calls_of (cond out rest (m ∷ rest))) t)
-
 goes : ((i : Bool) (x : Call) (b : ClockBoard) (t : CycleBoard) → Paired i b t → Kept i x b t)
     → (xs : List Call) (i : Bool) (b : ClockBoard) (t : CycleBoard) → Paired i b t → Goes i xs b t
 goes one [] true b t h = (refl, λ e. absurd (true≢false e))
@@ -68,13 +62,10 @@ goes one (x ∷ xs) i b t h =
     let j = inside_then i (step x o) in
     let ms = made on_clocked xs b' in
     elim (one i x b t h) [
-      | inl k ↦
-          subst (λ (out : Bool). GoesOn out m (short_list j ms) (inside_at_end j ms) (after_all on_clocked xs b') t) (sym k.0)
-          (goes one xs j b' t k.1)
+      | inl k ↦ rw k.0 (goes one xs j b' t k.1)
       | inr k ↦
           let g = goes one xs j b' (on_cycled x t).after k.2 in
-          subst (λ (out : Bool). GoesOn out m (short_list j ms) (inside_at_end j ms) (after_all on_clocked xs b') t) (sym k.0)
-          (λ a. record { call = x; outcome = k.1 a } ∷ g.0 a, g.1)
+          rw k.0 (λ a. record { call = x; outcome = k.1 a } ∷ g.0 a, g.1)
     ]
 
 -- Between cycles: a call of the panel does the same to both.
@@ -204,20 +195,7 @@ one-call false x b t h = subst (λ (u : CycleBoard). Kept false x b u) h.2 (betw
 
 -- the twin of a board between cycles
 pub agree : (b : ClockBoard) (t : CycleBoard) → seen b ≡ t → Agree b t
-agree b t h = record {
-  contents = ap (λ (u : CycleBoard). u.contents) h;
-  ac = ap (λ (u : CycleBoard). u.visible.ac) h;
-  e = ap (λ (u : CycleBoard). u.visible.e) h;
-  pc = ap (λ (u : CycleBoard). u.visible.pc) h;
-  ien = ap (λ (u : CycleBoard). u.visible.ien) h;
-  r = ap (λ (u : CycleBoard). u.visible.r) h;
-  s = ap (λ (u : CycleBoard). u.visible.s) h;
-  fgi = ap (λ (u : CycleBoard). u.visible.port.fgi) h;
-  fgo = ap (λ (u : CycleBoard). u.visible.port.fgo) h;
-  inpr = ap (λ (u : CycleBoard). u.visible.port.inpr) h;
-  outr = ap (λ (u : CycleBoard). u.visible.port.outr) h;
-  lines = λ statuses. ap (λ (u : CycleBoard). u.rule statuses) h;
-}
+agree b t h = subst (Agree b) h (grind arith)
 
 pub twins : (calls : List Call) (b : ClockBoard) → b.registers.sc ≡ 0 → b.registers.pc < 4096 → Twins calls b (seen b)
 twins calls b p h =
