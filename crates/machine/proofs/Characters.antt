@@ -23,15 +23,9 @@ clock-holds : (b : ClockBoard) (ch : ℕ) → ac_inpr b.registers.sc (opcode b.r
     → Holds (clocked b) ch
 clock-holds b ch e h = beat-holds (connection (moved b)) ch (h.0, rw e h.1, h.2)
 
-step-holds : (o : Option ℕ) (takes : Bool) (b : ClockBoard) (ch : ℕ) → (granted o && takes) ≡ false
-    → (takes ≡ false → Holds (clocked b) ch) → Holds b ch → Holds (unless o b (clock_granted Clock b)).after ch
-step-holds None takes b ch e k h = k e
-step-holds (Some f) takes b ch e k h = h
-
 call-holds : (x : Call) (b : ClockBoard) (ch : ℕ) → takes_input x b ≡ false → Holds b ch → Holds (on_clocked x b).after ch
 call-holds Clock b ch e h =
-    step-holds (turned_down Clock (size b.contents) b.registers.s) (ac_inpr b.registers.sc (opcode b.registers.ir) b.registers) b ch e
-    (λ k. clock-holds b ch k h) h
+    call-cases Clock b (λ k. Holds k.after ch) (λ f. h) (λ g. clock-holds b ch (rw g at e) h)
 call-holds Start b ch e h = call-cases Start b (λ k. Holds k.after ch) (λ f. h) (λ g. h)
 call-holds (Aim a) b ch e h = call-cases (Aim a) b (λ k. Holds k.after ch) (λ f. h) (λ g. h)
 call-holds (Deposit a w) b ch e h = call-cases (Deposit a w) b (λ k. Holds k.after ch) (λ f. h) (λ g. h)

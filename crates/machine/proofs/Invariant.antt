@@ -1,5 +1,5 @@
 -- Every call keeps the registers of the clocked computer sound.
-use Rattle.std.proofs.Common.{◌≡◌, ℕ, zero, suc, ◌+◌, ◌/◌, ◌<◌, ◌≤◌, Bool, true, false, cond, ◌&&◌, List, [], ◌∷◌, sym, refl, subst, inl, inr, true≢false, mod-lt, arith, lit<, lit≤}
+use Rattle.std.proofs.Common.{◌≡◌, ℕ, zero, suc, ◌+◌, ◌/◌, ◌<◌, ◌≤◌, Bool, true, false, cond, ◌&&◌, List, [], ◌∷◌, sym, refl, subst, inl, inr, true≢false, mod-lt, arith, rules, lit<, lit≤}
 use Rattle.std.proofs.lemmas.Bool.{ne_eqb, cases_eq, or_left, or_right, both_ways, cond-true}
 use Rattle.memory.specs.Contents.{Contents, fetched}
 use Rattle.machine.specs.declared.registers.Registers.{Registers}
@@ -27,19 +27,13 @@ soon : (t d : ℕ) → t ≤ 3 → Reached t d
 soon t d h = grind arith
 
 at-2 : (b : Bool) (d : ℕ) → Reached (cond b 0 3) d
-at-2 true d = soon 0 d (lit≤ tt)
-at-2 false d = soon 3 d (lit≤ tt)
+at-2 b d = grind arith
 
 at_3 : (d : ℕ) (c : Registers) → d < 8 → Reached (cond (sc_clear 3 d c) 0 4) d
 at_3 d c h =
     elim (cases_eq d 7) [
       | inl e ↦ subst (λ (x : ℕ). Reached (cond (sc_clear 3 x c) 0 4) x) (sym e) (by-i c.i refl)
-      | inr n ↦ rw (ne_eqb d 7 n) (record {
-        sc_fits = lit≤ tt;
-        at_four = λ x. omega arith;
-        at_five = λ x. absurd (omega arith);
-        at_six = λ x. absurd (omega arith);
-      })
+      | inr n ↦ rw (ne_eqb d 7 n) (grind arith)
     ]
   where
     by-i : (i : Bool) → c.i ≡ i → Reached (cond (sc_clear 3 7 c) 0 4) 7
@@ -122,7 +116,7 @@ module _ (c : Registers) (x : ℕ) where
   pub bus-sound : c.s ≡ true → Sound c → Sound (transferred_at t d c x)
   bus-sound e h =
       let k = next-reached t d c x (mod-lt (c.ir / 4096) (lit< tt)) refl
-      (record { sc_fits = h.sc_fits; at_four = h.at_four; at_five = h.at_five; at_six = h.at_six }) in
+      (search rules) in
       record {
         ar_fits = next-ar-fits h.ar_fits;
         pc_fits = next-pc-fits h.pc_fits;
@@ -139,28 +133,12 @@ transfers-sound c word e h = bus-sound c (bus c.sc (opcode c.ir) c word) e h
 pub clock-sound : (b : ClockBoard) → b.registers.s ≡ true → Sound b.registers → Sound (clocked b).registers
 clock-sound b e h =
     let k = transfers-sound b.registers (fetched b.contents b.registers.ar) e h in
-    record {
-      ar_fits = k.ar_fits;
-      pc_fits = k.pc_fits;
-      sc_fits = k.sc_fits;
-      at_rest = k.at_rest;
-      at_four = k.at_four;
-      at_five = k.at_five;
-      at_six = k.at_six;
-    }
+    search rules
 
 -- a call keeps them sound
 pub panel-sound : (b : ClockBoard) (pc : ℕ) (s : Bool) (contents : Contents) → b.registers.s ≡ false
     → (b.registers.pc < 4096 → pc < 4096) → Sound b.registers → Sound (with_panel pc s contents b).registers
-panel-sound b pc s contents f p h = record {
-  ar_fits = h.ar_fits;
-  pc_fits = p h.pc_fits;
-  sc_fits = h.sc_fits;
-  at_rest = λ u. h.at_rest f;
-  at_four = h.at_four;
-  at_five = h.at_five;
-  at_six = h.at_six;
-}
+panel-sound b pc s contents f p h = grind arith
 
 pub call-sound : (x : Call) (b : ClockBoard) → Sound b.registers → Sound (on_clocked x b).after.registers
 call-sound x b h =
@@ -171,15 +149,7 @@ all_sound [] b h = h
 all_sound (x ∷ xs) b h = all_sound xs (on_clocked x b).after (call-sound x b h)
 
 pub new-sound : Sound new_registers
-new-sound = record {
-  ar_fits = lit< tt;
-  pc_fits = lit< tt;
-  sc_fits = lit≤ tt;
-  at_rest = λ e. refl;
-  at_four = λ e. absurd (omega (arith, e));
-  at_five = λ e. absurd (omega (arith, e));
-  at_six = λ e. absurd (omega (arith, e));
-}
+new-sound = grind arith
 
 pub invariant-kept : InvariantKept
 invariant-kept contents rule calls = all_sound calls (new_clock_board contents rule) new-sound

@@ -81,14 +81,11 @@ panel (Some refusal) b n b' = (refl, refl, λ p q. p)
 
 keeps-pc : (o : Option ℕ) (b : ClockBoard) (n : ℕ) (b' : ClockBoard) → b.registers.pc < 4096 → b'.registers.pc < 4096
     → (unless o b (gives n b')).after.registers.pc < 4096
-keeps-pc None b n b' p q = q
-keeps-pc (Some refusal) b n b' p q = p
+keeps-pc o b n b' p q = grind arith
 
 aimed-pc : (past s : Bool) (b : ClockBoard) (a : ℕ) → (past ≡ false → a < 4096) → b.registers.pc < 4096
     → (unless (cond past (Some 2) (cond s (Some 4) None)) b (gives {Answer = ℕ} 0 (with_panel a b.registers.s b.contents b))).after.registers.pc < 4096
-aimed-pc true s b a p q = q
-aimed-pc false true b a p q = q
-aimed-pc false false b a p q = p refl
+aimed-pc past s b a p q = grind arith
 
 -- A granted clock, with the end of its cycle n clocks ahead.
 abbrev ClockKept : Bool → ℕ → ClockBoard → CycleBoard → Type 0
@@ -219,30 +216,21 @@ cycle-granted-is t l s =
 
 -- n clocks and one more, by which a cycle ends
 module _ (k : ℕ) (t : CycleBoard) where
-  abbrev After : List Call → Called ℕ ClockBoard → Type 0
-  After xs x = seen (after_all on_clocked xs x.after) ≡ t
-
   clocks-after : (n : ℕ) (b : ClockBoard) → EndsAfter n b k t → b.registers.s ≡ true → size b.contents ≡ 4096
       → seen (after_all on_clocked (times (suc n)) b) ≡ t
-  clocks-after zero b e s l = subst (After []) (sym (clock-granted-is b l s)) e.2
+  clocks-after zero b e s l = rw (clock-granted-is b l s, after_all) e.2
   clocks-after (suc n) b e s l =
-      subst (After (times (suc n))) (sym (clock-granted-is b l s)) (clocks-after n (clocked b) e.2 e.1 (clock-size b ∙ l))
+      rw (clock-granted-is b l s, after_all) (clocks-after n (clocked b) e.2 e.1 (clock-size b ∙ l))
 
   abbrev one_cycle : ℕ → List Made
   one_cycle n = record { call = Clock; outcome = answered n } ∷ []
 
-  abbrev Short : Bool → List Call → Called ℕ ClockBoard → Type 0
-  Short i xs x = short_list i (record { call = Clock; outcome = x.outcome } ∷ made on_clocked xs x.after) ≡ one_cycle k
-
   clocks-short : (j : ℕ) → k ≡ suc j → (n : ℕ) (i : Bool) (b : ClockBoard) → EndsAfter n b k t → b.registers.s ≡ true
       → size b.contents ≡ 4096 → short_list i (made on_clocked (times (suc n)) b) ≡ one_cycle k
   clocks-short j q zero i b e s l =
-      subst (Short i []) (sym (clock-granted-is b l s))
-      (subst (λ (a : ℕ). Short i [] (gives a (clocked b))) (sym (e.0 ∙ q)) (ap one_cycle (sym q)))
+      rw (clock-granted-is b l s, made, e.0 ∙ q) (ap one_cycle (sym q))
   clocks-short j q (suc n) i b e s l =
-      subst (Short i (times (suc n))) (sym (clock-granted-is b l s))
-      (subst (λ (a : ℕ). Short i (times (suc n)) (gives a (clocked b))) (sym e.0)
-      (clocks-short j q n true (clocked b) e.2 e.1 (clock-size b ∙ l)))
+      rw (clock-granted-is b l s, made, e.0) (clocks-short j q n true (clocked b) e.2 e.1 (clock-size b ∙ l))
 
 pub cycle-by-clocks : CycleByClocks
 cycle-by-clocks b p q h l =
