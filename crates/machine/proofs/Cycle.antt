@@ -69,26 +69,7 @@ known b r =
     mid b 0 b.registers.ar b.registers.pc b.registers.dr b.registers.ir b.registers.i r (connection b) b.contents
 
 pub is_known : (b : ClockBoard) (r : Bool) → b.registers.sc ≡ 0 → b.registers.s ≡ true → b.registers.r ≡ r → known b r ≡ b
-is_known b r p q u =
-    λ j. record {
-      registers = record {
-        ar = b.registers.ar;
-        pc = b.registers.pc;
-        dr = b.registers.dr;
-        ac = b.registers.ac;
-        ir = b.registers.ir;
-        tr = b.registers.tr;
-        sc = sym p j;
-        e = b.registers.e;
-        i = b.registers.i;
-        r = sym u j;
-        s = sym q j;
-        ien = b.registers.ien;
-        port = b.registers.port;
-      };
-      contents = b.contents;
-      rule = b.rule;
-    }
+is_known b r p q u = rw (← u, ← p, ← q)
 
 abbrev pub Agrees : ClockBoard → Type 0
 Agrees b = EndsAfter (clocks (seen b) - 1) b (clocks (seen b)) (cycled (seen b))

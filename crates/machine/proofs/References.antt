@@ -11,17 +11,11 @@ use Rattle.machine.proofs.Beat.{keeps-flag}
 use Rattle.machine.proofs.Ends.{EndsAfter, mid, next, last, raise, addressed}
 
 -- R raised at several clocks is R raised at the last of them
-settle-bool : (ien f g r : Bool) → (f ≡ true → g ≡ true) → cond (ien && g) true (cond (ien && f) true r) ≡ cond (ien && g) true r
-settle-bool ien f g r h = grind arith
-
-cond-self : (b : Bool) → cond b true false ≡ b
-cond-self b = grind arith
-
 settle : (b : ClockBoard) (x : Connection) (r : Bool) → raise b (beat x) (raise b x r) ≡ raise b (beat x) r
-settle b x r = settle-bool b.registers.ien (flagged x.port) (flagged (beat x).port) r (keeps-flag x)
+settle b x r = grind (arith, keeps-flag)
 
 pub raised-1 : (b : ClockBoard) (x : Connection) → raise b x false ≡ (b.registers.ien && flagged x.port)
-raised-1 b x = cond-self (b.registers.ien && flagged x.port)
+raised-1 b x = grind arith
 
 pub raised-2 : (b : ClockBoard) (x : Connection) → raise b (beat x) (raise b x false) ≡ (b.registers.ien && flagged (beat x).port)
 raised-2 b x = settle b x false ∙ raised-1 b (beat x)

@@ -102,20 +102,11 @@ clock-kept i zero b t e h u l k =
 clock-kept i (suc n) b t e h u l k =
     subst (λ (a : ℕ). ClockKept i a b t) (sym e.0) (inl (refl, (n, e.2, clock-pc b h, e.1, u, clock-size b ∙ l, k)))
 
--- a clock and a cycle, by what is known of their refusal
-abbrev StepKept : Bool → Option ℕ → Option ℕ → ClockBoard → CycleBoard → Type 0
-StepKept i o o' b t =
-    let u = unless o b (gives (clocks_ended b.registers) (clocked b)) in
-    let v = unless o' t (gives (clocks t) (cycled t)) in
-    ((struck i Clock u.outcome ≡ true) × Paired (inside_then i (step Clock u.outcome)) u.after t)
-    ⊎ ((struck i Clock u.outcome ≡ false) × (v.outcome ≡ u.outcome)
-    × Paired (inside_then i (step Clock u.outcome)) u.after v.after)
-
+-- a granted clock on both
 step_kept : (i : Bool) (n : ℕ) (b : ClockBoard) (t : CycleBoard) → EndsAfter n b (clocks t) (cycled t) → b.registers.pc < 4096
     → b.registers.s ≡ true → t.visible.s ≡ true → size b.contents ≡ 4096 → size t.contents ≡ 4096 → Kept i Clock b t
 step_kept i n b t e h s u l k =
-    subst₂ (λ (o o' : Option ℕ). StepKept i o o' b t)
-    (sym (clock-is-granted (size b.contents) b.registers.s l s)) (sym (clock-is-granted (size t.contents) t.visible.s k u))
+    rw (clock-is-granted (size b.contents) b.registers.s l s, clock-is-granted (size t.contents) t.visible.s k u)
     (clock-kept i n b t e h u l k)
 
 -- between cycles
@@ -123,10 +114,10 @@ between_step : (b : ClockBoard) → b.registers.sc ≡ 0 → b.registers.pc < 40
     → b.registers.s ≡ s → Kept false Clock b (seen b)
 between_step b p h false s e q =
     let r : turned_down Clock (size b.contents) b.registers.s ≡ Some 1 = rw e in
-    subst (λ (o : Option ℕ). StepKept false o o b (seen b)) (sym r) (inr (refl, refl, (p, h, refl)))
+    rw r (inr (refl, refl, (p, h, refl)))
 between_step b p h true false e q =
     let r : turned_down Clock (size b.contents) b.registers.s ≡ Some 3 = rw (e, q) in
-    subst (λ (o : Option ℕ). StepKept false o o b (seen b)) (sym r) (inr (refl, refl, (p, h, refl)))
+    rw r (inr (refl, refl, (p, h, refl)))
 between_step b p h true true e q =
     let l = eqb-true (size b.contents) 4096 e in
     step_kept false (clocks (seen b) - 1) b (seen b) (cycle-agrees b p q h) h q q l l
