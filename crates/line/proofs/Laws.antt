@@ -14,17 +14,11 @@ abbrev Handed : List Cue → List Reply → List Cue → Type 0
 Handed cues replies left =
     (characters replies ≡ map (λ cue. cue.character) (take (length (characters replies)) cues)) × (left ≡ drop (length (characters replies)) cues)
 
-handed-cue : (is-due printed : Bool) (cue : Cue) (cues left : List Cue) (replies : List Reply) →
-    Handed (cond is-due cues (cue ∷ cues)) replies left →
-    Handed (cue ∷ cues) (record { character = cond is-due (Some cue.character) None; printed = printed } ∷ replies) left
-handed-cue true printed cue cues left replies h = (ap {B = List ℕ} (λ rest. cue.character ∷ rest) h.0, h.1)
-handed-cue false printed cue cues left replies h = h
-
 handed-more : (cues left : List Cue) (count : ℕ) (status : Status) (printed : Bool) (replies : List Reply) →
     Handed (cues_after cues count status) replies left →
     Handed cues (record { character = handed_over cues count status; printed = printed } ∷ replies) left
 handed-more [] left count status printed replies h = h
-handed-more (cue ∷ cues) left count status printed replies h = handed-cue (due cue count status) printed cue cues left replies h
+handed-more (cue ∷ cues) left count status printed replies h = grind arith
 
 handed-all : (script : Script) (statuses : List Status) → Handed script.cues (script_replies script statuses) (script_after_all script statuses).cues
 handed-all script [] = (refl, refl)
@@ -42,19 +36,11 @@ abbrev Put : List ℕ → List ℕ → List ℕ → List ℕ → List ℕ → Ty
 Put printed blank outrs printed' blank' =
     (printed' ≡ printed ++ outrs) × (blank' ≡ drop (length outrs) blank) × (length printed' ≤ length printed + length blank)
 
-put_byte : (prints-it : Bool) (printed places outrs printed' blank' : List ℕ) (place outr : ℕ) →
-    Put (cond prints-it (printed ++ outr ∷ []) printed) (cond prints-it places (place ∷ places)) outrs printed' blank' →
-    Put printed (place ∷ places) (cond prints-it (outr ∷ outrs) outrs) printed' blank'
-put_byte true printed places outrs printed' blank' place outr p =
-    (p.0 ∙ append_assoc printed (outr ∷ []) outrs, p.1, omega (arith, p.2, length-append printed (outr ∷ [])))
-put_byte false printed places outrs printed' blank' place outr p = p
-
 put-more : (printed blank outrs printed' blank' : List ℕ) (status : Status) →
     Put (printed_after printed blank status) (blank_after blank status) outrs printed' blank' →
     Put printed blank (cond (prints blank status) (status.outr ∷ outrs) outrs) printed' blank'
 put-more printed [] outrs printed' blank' status p = p
-put-more printed (place ∷ places) outrs printed' blank' status p =
-    put_byte (not status.fgo) printed places outrs printed' blank' place status.outr p
+put-more printed (place ∷ places) outrs printed' blank' status p = grind (arith, append_assoc, length-append {A = ℕ})
 
 put_all : (script : Script) (statuses : List Status) →
     Put script.printed script.blank (outrs_printed statuses (script_replies script statuses)) (script_after_all script statuses).printed (script_after_all script statuses).blank

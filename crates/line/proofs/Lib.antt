@@ -1,4 +1,2 @@
 pub mod Laws
-pub mod Printing
 pub mod Rules
-pub mod Script

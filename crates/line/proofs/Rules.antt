@@ -1,10 +1,9 @@
 -- What follows of every reply rule.
-use Rattle.std.proofs.Common.{◌≡◌, ℕ, zero, suc, ◌+◌, ◌<◌, true, false, List, [], ◌∷◌, ◌++◌, length, get_or, take, None, sym, refl, ap, ◌∙◌, subst, append_assoc, append-nil}
+use Rattle.std.proofs.Common.{◌≡◌, ℕ, zero, suc, List, [], ◌∷◌, ◌++◌, length, take, sym, refl, ap, ◌∙◌, subst, append-nil}
 use mathlib.Core.Path.{fun_ext}
 use Rattle.line.specs.declared.status.Reply.{Reply}
 use Rattle.line.specs.declared.status.Status.{Status}
 use Rattle.line.specs.Rules.{Rule, first_reply, later_replies, reply_to, rule_after, rule_after_all, Replied, RepliedAll, Fitting, Proper, Alike}
-use Rattle.std.proofs.lemmas.List.{take_more}
 
 -- One beat's promise as equations: the reply, and the rule that is left.
 pub reply_is : (rule : Rule) (status : Status) (reply : Reply) (next : Rule) → Replied rule status reply next → reply_to rule status ≡ reply
@@ -47,39 +46,14 @@ length-fitting (status ∷ statuses) (reply ∷ replies) fits = ap suc (length-f
 pub each-reply : (rule : Rule) → Proper rule → (statuses : List Status) → length (rule statuses) ≡ length statuses
 each-reply rule proper statuses = length-fitting statuses (rule statuses) (proper.fitting statuses)
 
--- What a proper rule says of one beat: with FGI up no character, and with FGO up not printed.
-module _ (rule : Rule) (status : Status) (reply : Reply) (next : Rule) (proper : Proper rule) (replied : Replied rule status reply next) where
-  first_fits : Fitting (status ∷ []) (reply ∷ next [])
-  first_fits = subst (λ (replies : List Reply). Fitting (status ∷ []) replies) (replied []) (proper.fitting (status ∷ []))
-
-  pub character-held : status.fgi ≡ true → reply.character ≡ None
-  character-held = first_fits.0
-
-  pub not-printed : status.fgo ≡ true → reply.printed ≡ false
-  not-printed = first_fits.1
-
--- A list of beats: one more at its end, and what all of them say of the rule.
-pub replied-more : (rule next left : Rule) (statuses : List Status) (replies : List Reply) (status : Status) (reply : Reply) →
-    RepliedAll rule statuses replies next → Replied next status reply left → RepliedAll rule (statuses ++ status ∷ []) (replies ++ reply ∷ []) left
-replied-more rule next left statuses replies status reply all one rest =
-    ap rule (append_assoc statuses (status ∷ []) rest) ∙ all (status ∷ rest) ∙ ap (λ (more : List Reply). replies ++ more) (one rest)
-    ∙ sym (append_assoc replies (reply ∷ []) (left rest))
-
-pub replied-next : (rule next left : Rule) (statuses : List Status) (i : ℕ) (d : Status) (replies all : List Reply) (reply : Reply) → i < length statuses →
-    all ≡ replies ++ reply ∷ [] → RepliedAll rule (take i statuses) replies next → Replied next (get_or statuses i d) reply left →
-    RepliedAll rule (take (i + 1) statuses) all left
-replied-next rule next left statuses i d replies all reply h e before one =
-    rw (take_more statuses i d h, e) (replied-more rule next left (take i statuses) replies (get_or statuses i d) reply before one)
-
+-- What a list of beats says of the rule.
 nothing-fitting : (replies : List Reply) → Fitting [] replies → replies ≡ []
 nothing-fitting [] fits = refl
 nothing-fitting (reply ∷ replies) fits = absurd fits
 
 pub replies-are : (rule next : Rule) (statuses : List Status) (replies : List Reply) → Proper next → RepliedAll rule statuses replies next →
     replies ≡ rule statuses
-replies-are rule next statuses replies proper all =
-    sym (append-nil replies) ∙ ap (λ (more : List Reply). replies ++ more) (sym (nothing-fitting (next []) (proper.fitting []))) ∙ sym (all [])
-    ∙ ap rule (append-nil statuses)
+replies-are rule next statuses replies proper all = sym (simp (nothing-fitting (next []) (proper.fitting []), append-nil) at (all []))
 
 pub rule-left : (rule next : Rule) (statuses : List Status) (replies : List Reply) → Fitting statuses replies → RepliedAll rule statuses replies next →
     next ≡ rule_after_all rule statuses

@@ -1,6 +1,6 @@
 -- What a beat keeps.
-use Rattle.std.proofs.Common.{◌≡◌, ℕ, Bool, true, false, ◌||◌, List, [], ◌∷◌, Some, None, refl, ap₂}
-use mathlib.Core.Bool.{false≢true}
+use Rattle.std.proofs.Common.{◌≡◌, ℕ, Bool, true, false, ◌||◌, List, [], ◌∷◌, Some, None, refl, ap₂, arith}
+use Rattle.std.proofs.lemmas.Bool.{or_right}
 use Rattle.line.specs.declared.status.Status.{Status}
 use Rattle.line.specs.declared.status.Reply.{Reply}
 use Rattle.line.specs.Rules.{Rule, Fitting, Proper, Replied, first_reply, reply_to}
@@ -16,15 +16,8 @@ beat-is x reply next h =
     (reply_is x.rule (status x.port) reply next h) (rest-is x.rule (status x.port) reply next h)
 
 -- a flag that is up stays up
-or-true : (x : Bool) → (x || true) ≡ true
-or-true true = refl
-or-true false = refl
-
 either_up : (f g a b : Bool) → (f || g) ≡ true → ((f || a) || (g || b)) ≡ true
-either_up true g a b h = refl
-either_up false true a b h = or-true a
-either_up false false true b h = refl
-either_up false false false b h = absurd (false≢true h)
+either_up f g a b h = grind arith
 
 pub keeps-flag : (x : Connection) → flagged x.port ≡ true → flagged (beat x).port ≡ true
 unfolding beat
@@ -54,4 +47,4 @@ beat-holds x character h =
 pub beat-brings : (x : Connection) (character : ℕ) → Proper x.rule → (reply_to x.rule (status x.port)).character ≡ Some character
     → Holding (beat x) character
 unfolding beat
-beat-brings x character h e = (proper-after x.rule (status x.port) h, rw e (or-true x.port.fgi), rw e refl)
+beat-brings x character h e = (proper-after x.rule (status x.port) h, rw e (or_right x.port.fgi true refl), rw e refl)

@@ -9,4 +9,4 @@ beats-end (suc n) x = beats-end n (beat x)
 
 -- the beat after n beats
 pub beats-more : (n : ℕ) (x u v : Connection) → u ≡ beats n x → v ≡ beat u → v ≡ beats (n + 1) x
-beats-more n x u v e h = h ∙ ap beat e ∙ sym (ap (λ (k : ℕ). beats k x) (add-one n) ∙ beats-end n x)
+beats-more n x u v e h = rw add-one (cc (beats-end n x))

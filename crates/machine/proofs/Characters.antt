@@ -13,7 +13,7 @@ use Rattle.machine.specs.Calls.{turned_down, unless, clock_granted, on_clocked}
 use Rattle.machine.specs.Lists.{after_all}
 use Rattle.machine.specs.Laws.{granted, handed_in_beat, brought, takes_input, NoInputTaken, CharacterStays}
 use Rattle.machine.proofs.Beat.{Holding, beat-holds, beat-brings, beat-proper}
-use Rattle.machine.proofs.Calls.{call-cases, after_both}
+use Rattle.machine.proofs.Calls.{call-cases, by-call, after_both}
 
 abbrev Holds : ClockBoard → ℕ → Type 0
 Holds b character = Holding (connection b) character
@@ -23,15 +23,9 @@ clock-holds : (b : ClockBoard) (ch : ℕ) → ac_inpr b.registers.sc (opcode b.r
     → Holds (clocked b) ch
 clock-holds b ch e h = beat-holds (connection (moved b)) ch (h.0, rw e h.1, h.2)
 
-step-holds : (o : Option ℕ) (takes : Bool) (b : ClockBoard) (ch : ℕ) → (granted o && takes) ≡ false
-    → (takes ≡ false → Holds (clocked b) ch) → Holds b ch → Holds (unless o b (clock_granted Clock b)).after ch
-step-holds None takes b ch e k h = k e
-step-holds (Some f) takes b ch e k h = h
-
 call-holds : (x : Call) (b : ClockBoard) (ch : ℕ) → takes_input x b ≡ false → Holds b ch → Holds (on_clocked x b).after ch
 call-holds Clock b ch e h =
-    step-holds (turned_down Clock (size b.contents) b.registers.s) (ac_inpr b.registers.sc (opcode b.registers.ir) b.registers) b ch e
-    (λ k. clock-holds b ch k h) h
+    call-cases Clock b (λ k. Holds k.after ch) (λ f. h) (λ g. clock-holds b ch (rw g at e) h)
 call-holds Start b ch e h = call-cases Start b (λ k. Holds k.after ch) (λ f. h) (λ g. h)
 call-holds (Aim a) b ch e h = call-cases (Aim a) b (λ k. Holds k.after ch) (λ f. h) (λ g. h)
 call-holds (Deposit a w) b ch e h = call-cases (Deposit a w) b (λ k. Holds k.after ch) (λ f. h) (λ g. h)
@@ -44,32 +38,26 @@ calls-hold (x ∷ xs) b ch e h = calls-hold xs (on_clocked x b).after ch e.1 (ca
 
 -- the rule of the line stays proper
 call-proper : (x : Call) (b : ClockBoard) → Proper b.rule → Proper (on_clocked x b).after.rule
-call-proper Clock b h = call-cases Clock b (λ k. Proper k.after.rule) (λ f. h) (λ g. beat-proper (connection (moved b)) h)
-call-proper Start b h = call-cases Start b (λ k. Proper k.after.rule) (λ f. h) (λ g. h)
-call-proper (Aim a) b h = call-cases (Aim a) b (λ k. Proper k.after.rule) (λ f. h) (λ g. h)
-call-proper (Deposit a w) b h = call-cases (Deposit a w) b (λ k. Proper k.after.rule) (λ f. h) (λ g. h)
-call-proper (Examine a) b h = call-cases (Examine a) b (λ k. Proper k.after.rule) (λ f. h) (λ g. h)
+call-proper x b h =
+    by-call x b (λ now c. Proper c.rule) h (λ s. beat-proper (connection (moved b)) h) (λ pc s contents f p. h)
 
 pub all-proper : (xs : List Call) (b : ClockBoard) → Proper b.rule → Proper (after_all on_clocked xs b).rule
 all-proper [] b h = h
 all-proper (x ∷ xs) b h = all-proper xs (on_clocked x b).after (call-proper x b h)
 
 -- a character arrives
-nothing : {ch : ℕ} → ◌≡◌ {A = Option ℕ} None (Some ch) → ⊥
-nothing e = true≢false (ap arrived (sym e))
-
 by_clock : (o : Option ℕ) (b : ClockBoard) (ch : ℕ) → Proper b.rule
     → cond (granted o) (handed_in_beat (connection (moved b))) None ≡ Some ch
     → Holds (unless o b (clock_granted Clock b)).after ch
 by_clock None b ch h e = beat-brings (connection (moved b)) ch h e
-by_clock (Some f) b ch h e = absurd (nothing e)
+by_clock (Some f) b ch h e = cc
 
 brings : (x : Call) (b : ClockBoard) (ch : ℕ) → Proper b.rule → brought x b ≡ Some ch → Holds (on_clocked x b).after ch
 brings Clock b ch h e = by_clock (turned_down Clock (size b.contents) b.registers.s) b ch h e
-brings Start b ch h e = absurd (nothing e)
-brings (Aim a) b ch h e = absurd (nothing e)
-brings (Deposit a w) b ch h e = absurd (nothing e)
-brings (Examine a) b ch h e = absurd (nothing e)
+brings Start b ch h e = cc
+brings (Aim a) b ch h e = cc
+brings (Deposit a w) b ch h e = cc
+brings (Examine a) b ch h e = cc
 
 pub character_stays : CharacterStays
 character_stays contents rule h before x later ch e quiet =

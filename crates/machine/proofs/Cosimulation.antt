@@ -1,5 +1,5 @@
 -- The runs of the co-simulation, and their laws.
-use Rattle.std.proofs.Common.{◌≡◌, ℕ, Bool, true, false, cond, List, [], ◌∷◌, ◌++◌, sym, refl, ap, ◌∙◌, subst, append_assoc, append-nil}
+use Rattle.std.proofs.Common.{◌≡◌, ℕ, Bool, true, false, cond, List, [], ◌∷◌, ◌++◌, sym, refl, ap, ◌∙◌, subst, append_assoc, append-nil, arith}
 use Rattle.memory.specs.Contents.{Contents}
 use Rattle.line.specs.Rules.{Rule, Proper, Alike}
 use Rattle.machine.specs.declared.call.Call.{Call}
@@ -27,15 +27,13 @@ record GoesOn (calls : List Call) (p q : Pair) : Type 0 where
 twin-on : (out : Bool) (m : Made) (ms : List Made) (t : CycleBoard)
     → after_all on_cycled (calls_of ms) (cond out t (on_cycled m.call t).after)
     ≡ after_all on_cycled (calls_of (cond out ms (m ∷ ms))) t
-twin-on true m ms t = refl
-twin-on false m ms t = refl
+twin-on out m ms t = grind arith
 
 twin-returns : (out : Bool) (m : Made) (ms : List Made) (t : CycleBoard) (os : List (Outcome ℕ))
     → cond out os (os ++ ((on_cycled m.call t).outcome ∷ []))
     ++ outcomes_of (made on_cycled (calls_of ms) (cond out t (on_cycled m.call t).after))
     ≡ os ++ outcomes_of (made on_cycled (calls_of (cond out ms (m ∷ ms))) t)
-twin-returns true m ms t os = refl
-twin-returns false m ms t os = append_assoc os ((on_cycled m.call t).outcome ∷ []) _
+twin-returns out m ms t os = grind (arith, append_assoc)
 
 goes_on : (calls : List Call) (p : Pair) → GoesOn calls p (all_advanced calls p)
 goes_on [] p = record {

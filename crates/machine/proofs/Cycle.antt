@@ -12,8 +12,7 @@ use Rattle.machine.proofs.References.{addressing, raised-2, raised-3, raised-4, 
 use Rattle.machine.proofs.Marks.{marks-end, interrupt-ends}
 
 below : (i : Bool) (x y : ℕ) → cond i (low12 x) (low12 y) < 4096
-below true x y = mod-lt x (lit< tt)
-below false x y = mod-lt y (lit< tt)
+below i x y = grind arith
 
 module _ (b : ClockBoard) (h : b.registers.pc < 4096) where
   abbrev w : ℕ
@@ -70,26 +69,7 @@ known b r =
     mid b 0 b.registers.ar b.registers.pc b.registers.dr b.registers.ir b.registers.i r (connection b) b.contents
 
 pub is_known : (b : ClockBoard) (r : Bool) → b.registers.sc ≡ 0 → b.registers.s ≡ true → b.registers.r ≡ r → known b r ≡ b
-is_known b r p q u =
-    λ j. record {
-      registers = record {
-        ar = b.registers.ar;
-        pc = b.registers.pc;
-        dr = b.registers.dr;
-        ac = b.registers.ac;
-        ir = b.registers.ir;
-        tr = b.registers.tr;
-        sc = sym p j;
-        e = b.registers.e;
-        i = b.registers.i;
-        r = sym u j;
-        s = sym q j;
-        ien = b.registers.ien;
-        port = b.registers.port;
-      };
-      contents = b.contents;
-      rule = b.rule;
-    }
+is_known b r p q u = rw (← u, ← p, ← q)
 
 abbrev pub Agrees : ClockBoard → Type 0
 Agrees b = EndsAfter (clocks (seen b) - 1) b (clocks (seen b)) (cycled (seen b))
@@ -107,22 +87,13 @@ cycle-agrees b p q h = by-r b.registers.r refl
 abbrev SomeClocks : ℕ → Type 0
 SomeClocks k = (j : ℕ) × (k ≡ suc j) × (k ≤ 7)
 
-row-clocks : (a b c d e f g : Bool)
-    → SomeClocks (cond a AND (cond b ADD (cond c LDA (cond d STA (cond e BUN (cond f BSA (cond g ISZ MARKS))))))).clocks
-row-clocks true b c d e f g = (5, refl, lit≤ tt)
-row-clocks false true c d e f g = (5, refl, lit≤ tt)
-row-clocks false false true d e f g = (5, refl, lit≤ tt)
-row-clocks false false false true e f g = (4, refl, lit≤ tt)
-row-clocks false false false false true f g = (4, refl, lit≤ tt)
-row-clocks false false false false false true g = (5, refl, lit≤ tt)
-row-clocks false false false false false false true = (6, refl, lit≤ tt)
-row-clocks false false false false false false false = (3, refl, lit≤ tt)
-
-or-three : (r : Bool) (k : ℕ) → SomeClocks k → SomeClocks (cond r 3 k)
-or-three true k x = (2, refl, lit≤ tt)
-or-three false k x = x
+between : (r a b c d e f g : Bool)
+    → let k = cond r 3 (cond a AND (cond b ADD (cond c LDA (cond d STA (cond e BUN (cond f BSA (cond g ISZ MARKS))))))).clocks in
+    (0 < k) × (k ≤ 7)
+between r a b c d e f g = grind arith
 
 pub some-clocks : (t : CycleBoard) → SomeClocks (clocks t)
 some-clocks t =
     let d = opcode (fetched t.contents t.visible.pc) in
-    or-three t.visible.r (row d).clocks (row-clocks (eqb d 0) (eqb d 1) (eqb d 2) (eqb d 3) (eqb d 4) (eqb d 5) (eqb d 6))
+    let h = between t.visible.r (eqb d 0) (eqb d 1) (eqb d 2) (eqb d 3) (eqb d 4) (eqb d 5) (eqb d 6) in
+    (clocks t - 1, omega (arith, h), h.1)

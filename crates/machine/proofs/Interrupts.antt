@@ -12,13 +12,13 @@ use Rattle.machine.specs.Gates.{p, sc_clear}
 use Rattle.machine.specs.Clock.{connection, moved_at, after_beat, clocked, clocks_ended}
 use Rattle.machine.specs.Cycle.{cycled}
 use Rattle.machine.specs.Calls.{answered, turned_down, Called, with_panel, on_clocked}
-use Rattle.machine.specs.Lists.{after_all, step, Ended, beginning, under_way_then, ended_by, cycles, under_way}
+use Rattle.machine.specs.Lists.{after_all, Step, step, Ended, beginning, under_way_then, ended_by, cycles, under_way}
 use Rattle.machine.specs.Laws.{InterruptCycle, First, InterruptNext, InterruptInTime}
 use Rattle.machine.proofs.Beat.{keeps-flag}
 use Rattle.machine.proofs.Ends.{EndsAfter}
 use Rattle.machine.proofs.Marks.{interrupt-ends}
 use Rattle.machine.proofs.Cycle.{known, is_known}
-use Rattle.machine.proofs.Calls.{call-cases, clock-granted-when, start-granted-when, aim-granted-when, deposit-granted-when}
+use Rattle.machine.proofs.Calls.{by-call}
 
 -- IEN and a flag are up: a clock at T3 or later raises R, and one before it ends no cycle, with R down.
 abbrev Waiting : ClockBoard → Type 0
@@ -55,22 +55,19 @@ early (suc (suc zero)) d b h u = (rw u, rw u, refl, rw u)
 early (suc (suc (suc t))) d b h u = absurd (omega arith)
 
 sc-cleared : (c : Bool) (t : ℕ) → cond c 0 (t + 1) ≡ 0 → c ≡ true
-sc-cleared true t e = refl
-sc-cleared false t e = absurd (omega (arith, e))
+sc-cleared c t e = grind arith
 
 goes_on : (c : Bool) (t : ℕ) → cond c (t + 1) 0 ≡ 0 → c ≡ false
-goes_on true t e = absurd (omega (arith, e))
-goes_on false t e = refl
+goes_on c t e = grind arith
 
 ends_so : (c : Bool) (t k : ℕ) → cond c (t + 1) 0 ≡ suc k → cond c 0 (t + 1) ≡ 0
-ends_so true t k e = refl
-ends_so false t k e = absurd (omega (arith, e))
+ends_so c t k e = grind arith
 
 down : (b : ClockBoard) → b.registers.sc < 3 → Waiting b → b.registers.r ≡ false
 down b h w = elim w.2 [ inl u ↦ u | inr k ↦ absurd (omega arith) ]
 
 flag-after : (x : Connection) (port : Port) → flagged x.port ≡ true → port ≡ (beat x).port → flagged port ≡ true
-flag-after x port f e = subst (λ (q : Port). flagged q ≡ true) (sym e) (keeps-flag x f)
+flag-after x port f e = rw e (keeps-flag x f)
 
 next-sc : (c : Bool) (t : ℕ) → c ≡ false → 3 ≤ t → 3 ≤ cond c 0 (t + 1)
 next-sc c t e h = rw e (omega arith)
@@ -117,19 +114,12 @@ interrupt-taken b z s u =
       record { noted = u; saved = refl; resumed = refl; disabled = refl; lowered = refl },
     )
 
--- inside a cycle S is up, so that the panel changes nothing
-held : (x : Call) (b : ClockBoard) (P : ClockBoard → Type 0)
-    → (turned_down x (size b.contents) b.registers.s ≡ None → b.registers.s ≡ false) → b.registers.s ≡ true → P b
-    → P (on_clocked x b).after
-held x b P stops s h = call-cases x b (λ k. P k.after) (λ f. h) (λ e. absurd (true≢false (sym s ∙ stops e)))
-
--- the list of cycles from a clock on, with u under way, by what the clock gave
-abbrev FromClock : Option ClockBoard → List Call → ClockBoard → Called ℕ ClockBoard → List Ended
-FromClock u xs b k =
-    let now = step Clock k.outcome in ended_by u now b k.after (cycles (under_way_then u now b) xs k.after)
+-- the list of cycles from a call on b on, with u under way, by what the call was to the cycles and the board it left
+abbrev FromCall : Option ClockBoard → List Call → ClockBoard → Step → ClockBoard → List Ended
+FromCall u xs b now c = ended_by u now b c (cycles (under_way_then u now b) xs c)
 
 abbrev FromAnswer : Option ClockBoard → List Call → ClockBoard → ℕ → List Ended
-FromAnswer u xs b n = FromClock u xs b (record { outcome = answered n; after = clocked b })
+FromAnswer u xs b n = FromCall u xs b (step Clock (answered n)) (clocked b)
 
 module _ (b : ClockBoard) (t : CycleBoard) (i : Interrupting b t) where
   taken-by : (xs : List Call) (m : ℕ) (c : ClockBoard) → EndsAfter m c 3 t
@@ -151,20 +141,9 @@ module _ (b : ClockBoard) (t : CycleBoard) (i : Interrupting b t) where
   taken : (xs : List Call) (n : ℕ) (c : ClockBoard) → EndsAfter n c 3 t → c.registers.s ≡ true
       → First InterruptCycle (cycles (Some b) xs c)
   taken [] n c e s = tt
-  taken (Clock ∷ xs) n c e s =
-      call-cases Clock c (λ k. First InterruptCycle (FromClock (Some b) xs c k))
-      (λ f. taken xs n c e s) (λ g. taken-by xs n c e (λ m e' s'. taken xs m (clocked c) e' s'))
-  taken (Start ∷ xs) n c e s =
-      held Start c (λ d. First InterruptCycle (cycles (Some b) xs d)) (start-granted-when (size c.contents) c.registers.s) s
-      (taken xs n c e s)
-  taken (Aim a ∷ xs) n c e s =
-      held (Aim a) c (λ d. First InterruptCycle (cycles (Some b) xs d)) (λ g. (aim-granted-when a (size c.contents) c.registers.s g).1) s
-      (taken xs n c e s)
-  taken (Deposit a w ∷ xs) n c e s =
-      held (Deposit a w) c (λ d. First InterruptCycle (cycles (Some b) xs d)) (deposit-granted-when a w (size c.contents) c.registers.s) s
-      (taken xs n c e s)
-  taken (Examine a ∷ xs) n c e s =
-      call-cases (Examine a) c (λ k. First InterruptCycle (cycles (Some b) xs k.after)) (λ f. taken xs n c e s) (λ g. taken xs n c e s)
+  taken (x ∷ xs) n c e s =
+      by-call x c (λ now d. First InterruptCycle (FromCall (Some b) xs c now d)) (taken xs n c e s)
+      (λ g. taken-by xs n c e (λ m e' s'. taken xs m (clocked c) e' s')) (λ pc s' contents f p. absurd (both_ways c.registers.s f s))
 
 -- between cycles, with R up
 starts : (xs : List Call) (b : ClockBoard) → b.registers.sc ≡ 0 → b.registers.s ≡ true → b.registers.r ≡ true
@@ -176,20 +155,9 @@ starts xs b z s u =
 
 follows : (xs : List Call) (b : ClockBoard) → b.registers.sc ≡ 0 → b.registers.r ≡ true → First InterruptCycle (cycles None xs b)
 follows [] b z u = tt
-follows (Clock ∷ xs) b z u =
-    call-cases Clock b (λ k. First InterruptCycle (FromClock None xs b k)) (λ f. follows xs b z u)
-    (λ g. starts xs b z (clock-granted-when (size b.contents) b.registers.s g).1 u)
-follows (Start ∷ xs) b z u =
-    call-cases Start b (λ k. First InterruptCycle (cycles None xs k.after)) (λ f. follows xs b z u)
-    (λ g. follows xs (with_panel b.registers.pc true b.contents b) z u)
-follows (Aim a ∷ xs) b z u =
-    call-cases (Aim a) b (λ k. First InterruptCycle (cycles None xs k.after)) (λ f. follows xs b z u)
-    (λ g. follows xs (with_panel a b.registers.s b.contents b) z u)
-follows (Deposit a w ∷ xs) b z u =
-    call-cases (Deposit a w) b (λ k. First InterruptCycle (cycles None xs k.after)) (λ f. follows xs b z u)
-    (λ g. follows xs (with_panel b.registers.pc b.registers.s (stored b.contents a w) b) z u)
-follows (Examine a ∷ xs) b z u =
-    call-cases (Examine a) b (λ k. First InterruptCycle (cycles None xs k.after)) (λ f. follows xs b z u) (λ g. follows xs b z u)
+follows (x ∷ xs) b z u =
+    by-call x b (λ now c. First InterruptCycle (FromCall None xs b now c)) (follows xs b z u) (λ s. starts xs b z s u)
+    (λ pc s contents f p. follows xs (with_panel pc s contents b) z u)
 
 -- with IEN and a flag up: the cycle that ends next notes the interrupt
 notes : (u : Option ClockBoard) (xs : List Call) (b : ClockBoard) → Waiting b
@@ -203,20 +171,10 @@ notes u xs b w go (suc k) e =
 
 waits : (xs : List Call) (u : Option ClockBoard) (b : ClockBoard) → Waiting b → InterruptNext (cycles u xs b)
 waits [] u b w = tt
-waits (Clock ∷ xs) u b w =
-    call-cases Clock b (λ k. InterruptNext (FromClock u xs b k)) (λ f. waits xs u b w)
-    (λ g. notes u xs b w (λ v w'. waits xs v (clocked b) w') (clocks_ended b.registers) refl)
-waits (Start ∷ xs) u b w =
-    call-cases Start b (λ k. InterruptNext (cycles u xs k.after)) (λ f. waits xs u b w)
-    (λ g. waits xs u (with_panel b.registers.pc true b.contents b) w)
-waits (Aim a ∷ xs) u b w =
-    call-cases (Aim a) b (λ k. InterruptNext (cycles u xs k.after)) (λ f. waits xs u b w)
-    (λ g. waits xs u (with_panel a b.registers.s b.contents b) w)
-waits (Deposit a w ∷ xs) u b h =
-    call-cases (Deposit a w) b (λ k. InterruptNext (cycles u xs k.after)) (λ f. waits xs u b h)
-    (λ g. waits xs u (with_panel b.registers.pc b.registers.s (stored b.contents a w) b) h)
-waits (Examine a ∷ xs) u b w =
-    call-cases (Examine a) b (λ k. InterruptNext (cycles u xs k.after)) (λ f. waits xs u b w) (λ g. waits xs u b w)
+waits (x ∷ xs) u b w =
+    by-call x b (λ now c. InterruptNext (FromCall u xs b now c)) (waits xs u b w)
+    (λ s. notes u xs b w (λ v w'. waits xs v (clocked b) w') (clocks_ended b.registers) refl)
+    (λ pc s contents f p. waits xs u (with_panel pc s contents b) w)
 
 pub interrupt_in_time : InterruptInTime
 interrupt_in_time contents rule before later i f r =

@@ -1,7 +1,7 @@
 -- Every call keeps the registers of the clocked computer sound.
-use Rattle.std.proofs.Common.{◌≡◌, ℕ, zero, suc, ◌+◌, ◌/◌, ◌<◌, ◌≤◌, Bool, true, false, cond, ◌&&◌, List, [], ◌∷◌, sym, refl, subst, inl, inr, true≢false, mod-lt, arith, lit<, lit≤}
+use Rattle.std.proofs.Common.{◌≡◌, ℕ, zero, suc, ◌+◌, ◌/◌, ◌<◌, ◌≤◌, Bool, true, false, cond, ◌&&◌, List, [], ◌∷◌, sym, refl, subst, inl, inr, true≢false, mod-lt, arith, rules, lit<, lit≤}
 use Rattle.std.proofs.lemmas.Bool.{ne_eqb, cases_eq, or_left, or_right, both_ways, cond-true}
-use Rattle.memory.specs.Contents.{size, fetched}
+use Rattle.memory.specs.Contents.{Contents, fetched}
 use Rattle.machine.specs.declared.registers.Registers.{Registers}
 use Rattle.machine.specs.declared.call.Call.{Call}
 use Rattle.machine.specs.declared.call.Call.TheVariants.{Clock, Start, Aim, Deposit, Examine}
@@ -10,10 +10,10 @@ use Rattle.machine.specs.Boards.{ClockBoard, new_clock_board, new_registers, rea
 use Rattle.machine.specs.Gates.{r, bus, ar_load, ar_clear, ar_increment, pc_load, pc_clear, pc_increment, skip, sc_clear, T, B}
 use Rattle.machine.specs.Parts.{register}
 use Rattle.machine.specs.Clock.{transferred_at, transferred, clocked}
-use Rattle.machine.specs.Calls.{on_clocked}
+use Rattle.machine.specs.Calls.{with_panel, on_clocked}
 use Rattle.machine.specs.Lists.{after_all}
 use Rattle.machine.specs.Laws.{InvariantKept}
-use Rattle.machine.proofs.Calls.{call-cases, clock-granted-when, aim-granted-when}
+use Rattle.machine.proofs.Calls.{by-call}
 
 -- where SC may stand
 record Reached (sc d : ℕ) : Type 0 where
@@ -24,27 +24,16 @@ record Reached (sc d : ℕ) : Type 0 where
 
 -- up to T3 with any opcode
 soon : (t d : ℕ) → t ≤ 3 → Reached t d
-soon t d h = record {
-  sc_fits = omega arith;
-  at_four = λ e. absurd (omega arith);
-  at_five = λ e. absurd (omega arith);
-  at_six = λ e. absurd (omega arith);
-}
+soon t d h = grind arith
 
 at-2 : (b : Bool) (d : ℕ) → Reached (cond b 0 3) d
-at-2 true d = soon 0 d (lit≤ tt)
-at-2 false d = soon 3 d (lit≤ tt)
+at-2 b d = grind arith
 
 at_3 : (d : ℕ) (c : Registers) → d < 8 → Reached (cond (sc_clear 3 d c) 0 4) d
 at_3 d c h =
     elim (cases_eq d 7) [
       | inl e ↦ subst (λ (x : ℕ). Reached (cond (sc_clear 3 x c) 0 4) x) (sym e) (by-i c.i refl)
-      | inr n ↦ rw (ne_eqb d 7 n) (record {
-        sc_fits = lit≤ tt;
-        at_four = λ x. omega arith;
-        at_five = λ x. absurd (omega arith);
-        at_six = λ x. absurd (omega arith);
-      })
+      | inr n ↦ rw (ne_eqb d 7 n) (grind arith)
     ]
   where
     by-i : (i : Bool) → c.i ≡ i → Reached (cond (sc_clear 3 7 c) 0 4) 7
@@ -53,7 +42,7 @@ at_3 d c h =
 
 -- T4 goes on with opcodes 0, 1, 2, 5 and 6
 goes-to-5 : (d : ℕ) → reaches_t5 d ≡ true → Reached 5 d
-goes-to-5 d e = record { sc_fits = lit≤ tt; at_four = λ x. absurd (omega arith); at_five = λ x. e; at_six = λ x. absurd (omega arith) }
+goes-to-5 d e = grind arith
 
 at_4 : (d : ℕ) (c : Registers) → d < 7 → Reached (cond (sc_clear 4 d c) 0 5) d
 at_4 zero c h = goes-to-5 0 refl
@@ -70,12 +59,11 @@ at_5 : (d : ℕ) (c : Registers) → d < 8 → reaches_t5 d ≡ true → Reached
 at_5 zero c h e = soon 0 0 (lit≤ tt)
 at_5 (suc zero) c h e = soon 0 1 (lit≤ tt)
 at_5 (suc (suc zero)) c h e = soon 0 2 (lit≤ tt)
-at_5 (suc (suc (suc zero))) c h e = absurd (true≢false (sym e))
-at_5 (suc (suc (suc (suc zero)))) c h e = absurd (true≢false (sym e))
+at_5 (suc (suc (suc zero))) c h e = cc
+at_5 (suc (suc (suc (suc zero)))) c h e = cc
 at_5 (suc (suc (suc (suc (suc zero))))) c h e = soon 0 5 (lit≤ tt)
-at_5 (suc (suc (suc (suc (suc (suc zero)))))) c h e =
-    record { sc_fits = lit≤ tt; at_four = λ x. absurd (omega arith); at_five = λ x. absurd (omega arith); at_six = λ x. refl }
-at_5 (suc (suc (suc (suc (suc (suc (suc zero))))))) c h e = absurd (true≢false (sym e))
+at_5 (suc (suc (suc (suc (suc (suc zero)))))) c h e = grind arith
+at_5 (suc (suc (suc (suc (suc (suc (suc zero))))))) c h e = cc
 at_5 (suc (suc (suc (suc (suc (suc (suc (suc d)))))))) c h e = absurd (omega arith)
 
 at-6 : (d : ℕ) (c : Registers) → d ≡ 6 → Reached (cond (sc_clear 6 d c) 0 7) d
@@ -95,15 +83,11 @@ next-reached (suc (suc (suc (suc (suc (suc (suc t))))))) d c x b h k = absurd (o
 
 -- what a register takes is within its bound
 register-below : (a b : Bool) (x : ℕ) (i : Bool) (y z n : ℕ) → 0 < n → x < n → y < n → z < n → register a b x i y z < n
-register-below true b x i y z n h p q r = h
-register-below false true x i y z n h p q r = p
-register-below false false x true y z n h p q r = q
-register-below false false x false y z n h p q r = r
+register-below a b x i y z n h p q r = grind arith
 
 -- only a register-reference clock lowers S, and it ends a cycle
 lowered : (x b s : Bool) → s ≡ true → cond (x && b) false s ≡ false → x ≡ true
-lowered true b s e h = refl
-lowered false b s e h = absurd (both_ways s h e)
+lowered x b s e h = grind arith
 
 module _ (c : Registers) (x : ℕ) where
   abbrev t : ℕ
@@ -132,7 +116,7 @@ module _ (c : Registers) (x : ℕ) where
   pub bus-sound : c.s ≡ true → Sound c → Sound (transferred_at t d c x)
   bus-sound e h =
       let k = next-reached t d c x (mod-lt (c.ir / 4096) (lit< tt)) refl
-      (record { sc_fits = h.sc_fits; at_four = h.at_four; at_five = h.at_five; at_six = h.at_six }) in
+      (search rules) in
       record {
         ar_fits = next-ar-fits h.ar_fits;
         pc_fits = next-pc-fits h.pc_fits;
@@ -149,70 +133,23 @@ transfers-sound c word e h = bus-sound c (bus c.sc (opcode c.ir) c word) e h
 pub clock-sound : (b : ClockBoard) → b.registers.s ≡ true → Sound b.registers → Sound (clocked b).registers
 clock-sound b e h =
     let k = transfers-sound b.registers (fetched b.contents b.registers.ar) e h in
-    record {
-      ar_fits = k.ar_fits;
-      pc_fits = k.pc_fits;
-      sc_fits = k.sc_fits;
-      at_rest = k.at_rest;
-      at_four = k.at_four;
-      at_five = k.at_five;
-      at_six = k.at_six;
-    }
+    search rules
 
 -- a call keeps them sound
+pub panel-sound : (b : ClockBoard) (pc : ℕ) (s : Bool) (contents : Contents) → b.registers.s ≡ false
+    → (b.registers.pc < 4096 → pc < 4096) → Sound b.registers → Sound (with_panel pc s contents b).registers
+panel-sound b pc s contents f p h = grind arith
+
 pub call-sound : (x : Call) (b : ClockBoard) → Sound b.registers → Sound (on_clocked x b).after.registers
-call-sound Clock b h =
-    call-cases Clock b (λ k. Sound k.after.registers) (λ f. h)
-    (λ e. clock-sound b (clock-granted-when (size b.contents) b.registers.s e).1 h)
-call-sound Start b h =
-    call-cases Start b (λ k. Sound k.after.registers) (λ f. h)
-    (λ e. record {
-      ar_fits = h.ar_fits;
-      pc_fits = h.pc_fits;
-      sc_fits = h.sc_fits;
-      at_rest = λ u. absurd (true≢false u);
-      at_four = h.at_four;
-      at_five = h.at_five;
-      at_six = h.at_six;
-    })
-call-sound (Aim a) b h =
-    call-cases (Aim a) b (λ k. Sound k.after.registers) (λ f. h)
-    (λ e. record {
-      ar_fits = h.ar_fits;
-      pc_fits = (aim-granted-when a (size b.contents) b.registers.s e).0;
-      sc_fits = h.sc_fits;
-      at_rest = h.at_rest;
-      at_four = h.at_four;
-      at_five = h.at_five;
-      at_six = h.at_six;
-    })
-call-sound (Deposit a w) b h =
-    call-cases (Deposit a w) b (λ k. Sound k.after.registers) (λ f. h)
-    (λ e. record {
-      ar_fits = h.ar_fits;
-      pc_fits = h.pc_fits;
-      sc_fits = h.sc_fits;
-      at_rest = h.at_rest;
-      at_four = h.at_four;
-      at_five = h.at_five;
-      at_six = h.at_six;
-    })
-call-sound (Examine a) b h = call-cases (Examine a) b (λ k. Sound k.after.registers) (λ f. h) (λ e. h)
+call-sound x b h =
+    by-call x b (λ now c. Sound c.registers) h (λ e. clock-sound b e h) (λ pc s contents f p. panel-sound b pc s contents f p h)
 
 pub all_sound : (xs : List Call) (b : ClockBoard) → Sound b.registers → Sound (after_all on_clocked xs b).registers
 all_sound [] b h = h
 all_sound (x ∷ xs) b h = all_sound xs (on_clocked x b).after (call-sound x b h)
 
 pub new-sound : Sound new_registers
-new-sound = record {
-  ar_fits = lit< tt;
-  pc_fits = lit< tt;
-  sc_fits = lit≤ tt;
-  at_rest = λ e. refl;
-  at_four = λ e. absurd (omega (arith, e));
-  at_five = λ e. absurd (omega (arith, e));
-  at_six = λ e. absurd (omega (arith, e));
-}
+new-sound = grind arith
 
 pub invariant-kept : InvariantKept
 invariant-kept contents rule calls = all_sound calls (new_clock_board contents rule) new-sound

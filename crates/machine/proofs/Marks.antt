@@ -1,5 +1,6 @@
 -- The instructions of opcode 7, at T3, and the interrupt cycle.
-use Rattle.std.proofs.Common.{◌≡◌, ℕ, Bool, true, false, cond, not, ◌&&◌, ◌||◌, eqb, refl}
+use Rattle.std.proofs.Common.{◌≡◌, ℕ, Bool, true, false, cond, not, ◌&&◌, ◌||◌, eqb, refl, arith}
+use Rattle.std.proofs.Math.Bool.{or-false}
 use lib.Bits.{bit_or, or_zero_r}
 use Rattle.machine.specs.declared.registers.Visible.{Visible}
 use Rattle.machine.specs.Words.{bit, opcode, low8, up12, with_character}
@@ -11,17 +12,11 @@ use Rattle.machine.specs.Cycle.{beaten, cycled}
 use Rattle.machine.proofs.Ends.{EndsAfter, mid, last}
 use Rattle.machine.proofs.References.{raised-1}
 
-or-false : (b : Bool) → (b || false) ≡ b
-or-false true = refl
-or-false false = refl
-
 lone-load : (b : Bool) (x y : ℕ) → cond (((b || false) || false) || false) (bit_or (bit_or (bit_or (cond b x 0) 0) 0) 0) y ≡ cond b x y
-lone-load true x y = simp or_zero_r
-lone-load false x y = refl
+lone-load b x y = grind (arith, or_zero_r)
 
 lone-out : (b : Bool) (x y : ℕ) → cond b (low8 (cond b x 0)) y ≡ cond b (low8 x) y
-lone-out true x y = refl
-lone-out false x y = refl
+lone-out b x y = grind arith
 
 module _ (b : ClockBoard) (ar pc dr w : ℕ) (x : Connection) where
   abbrev ac : ℕ

@@ -1,5 +1,6 @@
 -- The memory-reference instructions, from T3 on.
-use Rattle.std.proofs.Common.{◌≡◌, ℕ, suc, ◌+◌, ◌<◌, Bool, true, false, cond, ◌&&◌, ◌||◌, eqb, sym, refl, ap, ◌∙◌, subst, mod-lt, mod-eq_of_lt, lit<}
+use Rattle.std.proofs.Common.{◌≡◌, ℕ, suc, ◌+◌, ◌<◌, Bool, true, false, cond, ◌&&◌, ◌||◌, eqb, sym, refl, ap, ◌∙◌, subst, mod-lt, mod-eq_of_lt, arith, lit<}
+use Rattle.std.proofs.Math.Bool.{or-false}
 use lib.Bits.{bit_and, bit_or, or_zero_r}
 use Rattle.memory.specs.Contents.{Contents, fetched, stored}
 use Rattle.machine.specs.Words.{opcode, low12, up12, up16, sum16, carry}
@@ -10,20 +11,11 @@ use Rattle.machine.proofs.Beat.{keeps-flag}
 use Rattle.machine.proofs.Ends.{EndsAfter, mid, next, last, raise, addressed}
 
 -- R raised at several clocks is R raised at the last of them
-settle-bool : (ien f g r : Bool) → (f ≡ true → g ≡ true) → cond (ien && g) true (cond (ien && f) true r) ≡ cond (ien && g) true r
-settle-bool false f g r h = refl
-settle-bool true true g r h = rw (h refl)
-settle-bool true false g r h = refl
-
-cond-self : (b : Bool) → cond b true false ≡ b
-cond-self true = refl
-cond-self false = refl
-
 settle : (b : ClockBoard) (x : Connection) (r : Bool) → raise b (beat x) (raise b x r) ≡ raise b (beat x) r
-settle b x r = settle-bool b.registers.ien (flagged x.port) (flagged (beat x).port) r (keeps-flag x)
+settle b x r = grind (arith, keeps-flag)
 
 pub raised-1 : (b : ClockBoard) (x : Connection) → raise b x false ≡ (b.registers.ien && flagged x.port)
-raised-1 b x = cond-self (b.registers.ien && flagged x.port)
+raised-1 b x = grind arith
 
 pub raised-2 : (b : ClockBoard) (x : Connection) → raise b (beat x) (raise b x false) ≡ (b.registers.ien && flagged (beat x).port)
 raised-2 b x = settle b x false ∙ raised-1 b (beat x)
@@ -47,15 +39,13 @@ or-zeros-6 : (x : ℕ) → bit_or (bit_or (bit_or (bit_or (bit_or (bit_or x 0) 0
 or-zeros-6 x = simp or_zero_r
 
 or-falses : (b : Bool) → (((b || false) || false) || false) ≡ b
-or-falses true = refl
-or-falses false = refl
+or-falses b = simp or-false
 
 low12-up12 : (m : ℕ) → low12 (up12 m) ≡ up12 m
 low12-up12 m = mod-eq_of_lt (mod-lt (m + 1) (lit< tt))
 
 skipped : (b : Bool) (x y : ℕ) → cond ((b || false) || false) x y ≡ cond b x y
-skipped true x y = refl
-skipped false x y = refl
+skipped b x y = simp or-false
 
 -- T3: the address
 module _ (b : ClockBoard) (ar pc dr w d : ℕ) (x : Connection) where

@@ -1,5 +1,5 @@
 -- A run is so many cycles.
-use Rattle.std.proofs.Common.{◌≡◌, ℕ, zero, suc, ◌+◌, ◌-◌, Bool, true, false, cond, eqb, sym, refl, ◌∙◌, subst, arith}
+use Rattle.std.proofs.Common.{◌≡◌, ℕ, zero, suc, ◌+◌, ◌-◌, Bool, true, false, cond, eqb, refl, ap, ◌∙◌, arith}
 use Rattle.memory.specs.Contents.{Contents, size}
 use Rattle.memory.proofs.Contents.{size-stored}
 use Rattle.machine.specs.Words.{opcode, up12}
@@ -14,20 +14,13 @@ use Rattle.machine.proofs.Twins.{cycle-granted-is}
 -- a cycle keeps the size of the memory
 row-size : (a b c d e f g : Bool) (w : ℕ) (x : CycleBoard)
     → size ((cond a AND (cond b ADD (cond c LDA (cond d STA (cond e BUN (cond f BSA (cond g ISZ MARKS))))))).effect w x).contents ≡ size x.contents
-row-size true b c d e f g w x = refl
-row-size false true c d e f g w x = refl
-row-size false false true d e f g w x = refl
-row-size false false false true e f g w x = size-stored x.contents _ _
-row-size false false false false true f g w x = refl
-row-size false false false false false true g w x = size-stored x.contents _ _
-row-size false false false false false false true w x = size-stored x.contents _ _
-row-size false false false false false false false w x = refl
+row-size a b c d e f g w x = grind (arith, size-stored)
 
 effect-size : (r : Bool) (d w : ℕ) (x y : CycleBoard) → y.contents ≡ x.contents
     → size (cond r (interrupted x) (executed d w y)).contents ≡ size x.contents
 effect-size true d w x y e = size-stored x.contents _ _
 effect-size false d w x y e =
-    row-size (eqb d 0) (eqb d 1) (eqb d 2) (eqb d 3) (eqb d 4) (eqb d 5) (eqb d 6) w y ∙ subst (λ (c : Contents). size y.contents ≡ size c) e refl
+    row-size (eqb d 0) (eqb d 1) (eqb d 2) (eqb d 3) (eqb d 4) (eqb d 5) (eqb d 6) w y ∙ ap size e
 
 pub cycle-size : (t : CycleBoard) → size (cycled t).contents ≡ size t.contents
 cycle-size t =
@@ -45,14 +38,12 @@ one_more t rest = record { cycles = suc rest.cycles; clocks = clocks t + rest.cl
 module _ (t : CycleBoard) (sized : size t.contents ≡ 4096) where
   goes : (n : ℕ) (rest : Ran) → t.visible.s ≡ true → CycleByCycle n (cycled t) rest → CycleByCycle (suc n) t (one_more t rest)
   goes n rest s h =
-      let g = sym (cycle-granted-is t sized s) in
+      let g = cycle-granted-is t sized s in
       record {
         at_most = omega (arith, h.at_most);
         all_unless_stopped = λ e. h.all_unless_stopped (omega arith);
-        after = subst (λ (x : Called ℕ CycleBoard). rest.after ≡ after_all on_cycled (times rest.cycles) x.after) g h.after;
-        clocks =
-            subst (λ (x : Called ℕ CycleBoard). clocks t + rest.clocks ≡ answer x.outcome + all_answers (made on_cycled (times rest.cycles) x.after))
-            g (subst (λ (k : ℕ). clocks t + rest.clocks ≡ clocks t + k) h.clocks refl);
+        after = rw (g, after_all) h.after;
+        clocks = rw (g, made, all_answers, h.clocks);
       }
 
   stops : (n : ℕ) → t.visible.s ≡ false → CycleByCycle n t (stopped t)

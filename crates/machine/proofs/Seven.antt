@@ -10,12 +10,12 @@ use Rattle.machine.specs.Boards.{ClockBoard, CycleBoard, new_clock_board, Sound}
 use Rattle.machine.specs.Gates.{sc_clear}
 use Rattle.machine.specs.Clock.{clocked}
 use Rattle.machine.specs.Cycle.{clocks}
-use Rattle.machine.specs.Calls.{answered, turned_down, unless, clock_granted, on_clocked, cycle_granted, on_cycled}
+use Rattle.machine.specs.Calls.{answered, turned_down, unless, with_panel, on_clocked, cycle_granted, on_cycled}
 use Rattle.machine.specs.Lists.{made, after_all, Step, on_its_way, ended, no_clock, step, counting, clocks_granted, Ended, beginning, under_way_then, ended_by, cycles, under_way}
 use Rattle.machine.specs.Laws.{Few, AllFew, SevenAtMost, SevenAtMostByCycles, CountedBy, Counted, ClocksCounted, SevenEndOne, CyclesInOrder}
 use Rattle.machine.proofs.Cycle.{some-clocks}
-use Rattle.machine.proofs.Calls.{call-cases, clock-granted-when}
-use Rattle.machine.proofs.Invariant.{clock-sound, call-sound, all_sound, new-sound}
+use Rattle.machine.proofs.Calls.{by-call}
+use Rattle.machine.proofs.Invariant.{clock-sound, panel-sound, call-sound, all_sound, new-sound}
 
 -- an answer of at most seven
 few-answer : (n : ℕ) → n ≤ 7 → Few (step Clock (answered n))
@@ -23,17 +23,13 @@ few-answer zero h = tt
 few-answer (suc n) h = h
 
 few-clocks : (c : Bool) (t : ℕ) → t ≤ 6 → cond c (t + 1) 0 ≤ 7
-few-clocks true t h = omega arith
-few-clocks false t h = omega arith
+few-clocks c t h = grind arith
 
 call-few : (x : Call) (b : ClockBoard) → Sound b.registers → Few (step x (on_clocked x b).outcome)
-call-few Clock b h =
-    call-cases Clock b (λ k. Few (step Clock k.outcome)) (λ f. tt)
+call-few x b h =
+    by-call x b (λ now c. Few now) tt
     (λ e. few-answer _ (few-clocks (sc_clear b.registers.sc (opcode b.registers.ir) b.registers) b.registers.sc h.sc_fits))
-call-few Start b h = tt
-call-few (Aim a) b h = tt
-call-few (Deposit a w) b h = tt
-call-few (Examine a) b h = tt
+    (λ pc s contents f p. tt)
 
 all-few : (xs : List Call) (b : ClockBoard) → Sound b.registers → AllFew (made on_clocked xs b)
 all-few [] b h = tt
@@ -60,7 +56,7 @@ seven-at-most-by-cycles (x ∷ xs) t = (call-few-by-cycles x t, seven-at-most-by
 
 -- SC counts the clocks of the cycle under way, and at 6 a clock ends it
 last : (d : ℕ) (c : Registers) → d ≡ 6 → sc_clear 6 d c ≡ true
-last d c e = subst (λ (x : ℕ). sc_clear 6 x c ≡ true) (sym e) refl
+last d c e = rw e
 
 below-six : (t d : ℕ) (c : Registers) → t ≤ 6 → (t ≡ 6 → d ≡ 6) → sc_clear t d c ≡ false → t < 6
 below-six t d c h k e =
@@ -74,36 +70,14 @@ counts : (c : Bool) (t : ℕ) (rest : ℕ → Type 0) → (c ≡ false → t < 6
 counts true t rest h k = rw add-one (refl, k)
 counts false t rest h k = (h refl, rw add-one at k)
 
--- the panel keeps SC
-keeps-sc : (x : Call) (b : ClockBoard)
-    → (turned_down x (size b.contents) b.registers.s ≡ None → (clock_granted x b).after.registers.sc ≡ b.registers.sc)
-    → (on_clocked x b).after.registers.sc ≡ b.registers.sc
-keeps-sc x b h = call-cases x b (λ k. k.after.registers.sc ≡ b.registers.sc) (λ f. refl) h
-
-panel-counted : (x : Call) (xs : List Call) (b : ClockBoard) → (on_clocked x b).after.registers.sc ≡ b.registers.sc
-    → Counted (made on_clocked xs (on_clocked x b).after) (on_clocked x b).after.registers.sc
-    → Counted (made on_clocked xs (on_clocked x b).after) b.registers.sc
-panel-counted x xs b e k = subst (Counted (made on_clocked xs (on_clocked x b).after)) e k
-
 counted : (xs : List Call) (b : ClockBoard) → Sound b.registers → Counted (made on_clocked xs b) b.registers.sc
 counted [] b h = tt
-counted (Clock ∷ xs) b h =
+counted (x ∷ xs) b h =
     let d = opcode b.registers.ir in
-    call-cases Clock b (λ k. CountedBy b.registers.sc (step Clock k.outcome) (Counted (made on_clocked xs k.after)))
-    (λ f. counted xs b h)
-    (λ g. counts (sc_clear b.registers.sc d b.registers) b.registers.sc (Counted (made on_clocked xs (clocked b)))
-    (below-six b.registers.sc d b.registers h.sc_fits h.at_six)
-    (counted xs (clocked b) (clock-sound b (clock-granted-when (size b.contents) b.registers.s g).1 h)))
-counted (Start ∷ xs) b h =
-    panel-counted Start xs b (keeps-sc Start b (λ e. refl)) (counted xs (on_clocked Start b).after (call-sound Start b h))
-counted (Aim a ∷ xs) b h =
-    panel-counted (Aim a) xs b (keeps-sc (Aim a) b (λ e. refl)) (counted xs (on_clocked (Aim a) b).after (call-sound (Aim a) b h))
-counted (Deposit a w ∷ xs) b h =
-    panel-counted (Deposit a w) xs b (keeps-sc (Deposit a w) b (λ e. refl))
-    (counted xs (on_clocked (Deposit a w) b).after (call-sound (Deposit a w) b h))
-counted (Examine a ∷ xs) b h =
-    panel-counted (Examine a) xs b (keeps-sc (Examine a) b (λ e. refl))
-    (counted xs (on_clocked (Examine a) b).after (call-sound (Examine a) b h))
+    by-call x b (λ now c. CountedBy b.registers.sc now (Counted (made on_clocked xs c))) (counted xs b h)
+    (λ e. counts (sc_clear b.registers.sc d b.registers) b.registers.sc (Counted (made on_clocked xs (clocked b)))
+    (below-six b.registers.sc d b.registers h.sc_fits h.at_six) (counted xs (clocked b) (clock-sound b e h)))
+    (λ pc s contents f p. counted xs (with_panel pc s contents b) (panel-sound b pc s contents f p h))
 
 pub clocks_counted : ClocksCounted
 clocks_counted contents rule calls = counted calls (new_clock_board contents rule) new-sound
@@ -126,34 +100,16 @@ granted-enough true t u b b' xs h go = rw add-one by
         let q : 7 * k ≤ 0 + clocks_granted (made on_clocked xs b') = omega arith in
         omega (arith, go None k q)
 
-panel-enough : (x : Call) (xs : List Call) (u : Option ClockBoard) (b : ClockBoard) → (on_clocked x b).after.registers.sc ≡ b.registers.sc
-    → Enough u xs (on_clocked x b).after
-    → (k : ℕ) → 7 * k ≤ b.registers.sc + clocks_granted (made on_clocked xs (on_clocked x b).after)
-    → k ≤ length (cycles u xs (on_clocked x b).after)
-panel-enough x xs u b e go =
-    subst (λ (n : ℕ). (k : ℕ) → 7 * k ≤ n + clocks_granted (made on_clocked xs (on_clocked x b).after)
-    → k ≤ length (cycles u xs (on_clocked x b).after)) e go
-
 enough : (xs : List Call) (u : Option ClockBoard) (b : ClockBoard) → Sound b.registers → Enough u xs b
 enough [] u b h = λ k e. omega (arith, h.sc_fits)
-enough (Clock ∷ xs) u b h =
-    call-cases Clock b
-    (λ q. let now = step Clock q.outcome in
-    (k : ℕ) → 7 * k ≤ b.registers.sc + counting now (clocks_granted (made on_clocked xs q.after))
-    → k ≤ length (ended_by u now b q.after (cycles (under_way_then u now b) xs q.after)))
-    (λ f. enough xs u b h)
-    (λ g. granted-enough (sc_clear b.registers.sc (opcode b.registers.ir) b.registers) b.registers.sc u b (clocked b) xs h.sc_fits
-    (λ v. enough xs v (clocked b) (clock-sound b (clock-granted-when (size b.contents) b.registers.s g).1 h)))
-enough (Start ∷ xs) u b h =
-    panel-enough Start xs u b (keeps-sc Start b (λ e. refl)) (enough xs u (on_clocked Start b).after (call-sound Start b h))
-enough (Aim a ∷ xs) u b h =
-    panel-enough (Aim a) xs u b (keeps-sc (Aim a) b (λ e. refl)) (enough xs u (on_clocked (Aim a) b).after (call-sound (Aim a) b h))
-enough (Deposit a w ∷ xs) u b h =
-    panel-enough (Deposit a w) xs u b (keeps-sc (Deposit a w) b (λ e. refl))
-    (enough xs u (on_clocked (Deposit a w) b).after (call-sound (Deposit a w) b h))
-enough (Examine a ∷ xs) u b h =
-    panel-enough (Examine a) xs u b (keeps-sc (Examine a) b (λ e. refl))
-    (enough xs u (on_clocked (Examine a) b).after (call-sound (Examine a) b h))
+enough (x ∷ xs) u b h =
+    by-call x b
+    (λ now c. (k : ℕ) → 7 * k ≤ b.registers.sc + counting now (clocks_granted (made on_clocked xs c))
+    → k ≤ length (ended_by u now b c (cycles (under_way_then u now b) xs c)))
+    (enough xs u b h)
+    (λ e. granted-enough (sc_clear b.registers.sc (opcode b.registers.ir) b.registers) b.registers.sc u b (clocked b) xs h.sc_fits
+    (λ v. enough xs v (clocked b) (clock-sound b e h)))
+    (λ pc s contents f p. enough xs u (with_panel pc s contents b) (panel-sound b pc s contents f p h))
 
 pub seven_end_one : SevenEndOne
 seven_end_one contents rule before later k e =

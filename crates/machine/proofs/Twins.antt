@@ -24,8 +24,7 @@ clock-pc : (b : ClockBoard) → b.registers.pc < 4096 → (clocked b).registers.
 clock-pc b h = next-pc-fits b.registers (bus_word b.registers.sc (opcode b.registers.ir) b) h
 
 write-size : (w : Bool) (contents : Contents) (a x : ℕ) → size (cond w (stored contents a x) contents) ≡ size contents
-write-size true contents a x = size-stored contents a x
-write-size false contents a x = refl
+write-size w contents a x = grind (arith, size-stored)
 
 pub clock-size : (b : ClockBoard) → size (clocked b).contents ≡ size b.contents
 clock-size b = write-size _ b.contents b.registers.ar _
@@ -52,12 +51,6 @@ Goes i xs b t =
     × (inside_at_end i (made on_clocked xs b) ≡ false
     → seen (after_all on_clocked xs b) ≡ after_all on_cycled (calls_of (short_list i (made on_clocked xs b))) t)
 
--- `rest` is the short list of what comes after the call m, which is struck out or not
-abbrev GoesOn : Bool → Made → List Made → Bool → ClockBoard → CycleBoard → Type 0
-GoesOn out m rest inside b t =
-    (made on_cycled (calls_of (cond out rest (m ∷ rest))) t ≡ cond out rest (m ∷ rest))
-    × (inside ≡ false → seen b ≡ after_all on_cycled (calls_of (cond out rest (m ∷ rest))) t)
-
 goes : ((i : Bool) (x : Call) (b : ClockBoard) (t : CycleBoard) → Paired i b t → Kept i x b t)
     → (xs : List Call) (i : Bool) (b : ClockBoard) (t : CycleBoard) → Paired i b t → Goes i xs b t
 goes one [] true b t h = (refl, λ e. absurd (true≢false e))
@@ -69,13 +62,10 @@ goes one (x ∷ xs) i b t h =
     let j = inside_then i (step x o) in
     let ms = made on_clocked xs b' in
     elim (one i x b t h) [
-      | inl k ↦
-          subst (λ (out : Bool). GoesOn out m (short_list j ms) (inside_at_end j ms) (after_all on_clocked xs b') t) (sym k.0)
-          (goes one xs j b' t k.1)
+      | inl k ↦ rw k.0 (goes one xs j b' t k.1)
       | inr k ↦
           let g = goes one xs j b' (on_cycled x t).after k.2 in
-          subst (λ (out : Bool). GoesOn out m (short_list j ms) (inside_at_end j ms) (after_all on_clocked xs b') t) (sym k.0)
-          (λ a. record { call = x; outcome = k.1 a } ∷ g.0 a, g.1)
+          rw k.0 (λ a. record { call = x; outcome = k.1 a } ∷ g.0 a, g.1)
     ]
 
 -- Between cycles: a call of the panel does the same to both.
@@ -91,14 +81,11 @@ panel (Some refusal) b n b' = (refl, refl, λ p q. p)
 
 keeps-pc : (o : Option ℕ) (b : ClockBoard) (n : ℕ) (b' : ClockBoard) → b.registers.pc < 4096 → b'.registers.pc < 4096
     → (unless o b (gives n b')).after.registers.pc < 4096
-keeps-pc None b n b' p q = q
-keeps-pc (Some refusal) b n b' p q = p
+keeps-pc o b n b' p q = grind arith
 
 aimed-pc : (past s : Bool) (b : ClockBoard) (a : ℕ) → (past ≡ false → a < 4096) → b.registers.pc < 4096
     → (unless (cond past (Some 2) (cond s (Some 4) None)) b (gives {Answer = ℕ} 0 (with_panel a b.registers.s b.contents b))).after.registers.pc < 4096
-aimed-pc true s b a p q = q
-aimed-pc false true b a p q = q
-aimed-pc false false b a p q = p refl
+aimed-pc past s b a p q = grind arith
 
 -- A granted clock, with the end of its cycle n clocks ahead.
 abbrev ClockKept : Bool → ℕ → ClockBoard → CycleBoard → Type 0
@@ -115,20 +102,11 @@ clock-kept i zero b t e h u l k =
 clock-kept i (suc n) b t e h u l k =
     subst (λ (a : ℕ). ClockKept i a b t) (sym e.0) (inl (refl, (n, e.2, clock-pc b h, e.1, u, clock-size b ∙ l, k)))
 
--- a clock and a cycle, by what is known of their refusal
-abbrev StepKept : Bool → Option ℕ → Option ℕ → ClockBoard → CycleBoard → Type 0
-StepKept i o o' b t =
-    let u = unless o b (gives (clocks_ended b.registers) (clocked b)) in
-    let v = unless o' t (gives (clocks t) (cycled t)) in
-    ((struck i Clock u.outcome ≡ true) × Paired (inside_then i (step Clock u.outcome)) u.after t)
-    ⊎ ((struck i Clock u.outcome ≡ false) × (v.outcome ≡ u.outcome)
-    × Paired (inside_then i (step Clock u.outcome)) u.after v.after)
-
+-- a granted clock on both
 step_kept : (i : Bool) (n : ℕ) (b : ClockBoard) (t : CycleBoard) → EndsAfter n b (clocks t) (cycled t) → b.registers.pc < 4096
     → b.registers.s ≡ true → t.visible.s ≡ true → size b.contents ≡ 4096 → size t.contents ≡ 4096 → Kept i Clock b t
 step_kept i n b t e h s u l k =
-    subst₂ (λ (o o' : Option ℕ). StepKept i o o' b t)
-    (sym (clock-is-granted (size b.contents) b.registers.s l s)) (sym (clock-is-granted (size t.contents) t.visible.s k u))
+    rw (clock-is-granted (size b.contents) b.registers.s l s, clock-is-granted (size t.contents) t.visible.s k u)
     (clock-kept i n b t e h u l k)
 
 -- between cycles
@@ -136,10 +114,10 @@ between_step : (b : ClockBoard) → b.registers.sc ≡ 0 → b.registers.pc < 40
     → b.registers.s ≡ s → Kept false Clock b (seen b)
 between_step b p h false s e q =
     let r : turned_down Clock (size b.contents) b.registers.s ≡ Some 1 = rw e in
-    subst (λ (o : Option ℕ). StepKept false o o b (seen b)) (sym r) (inr (refl, refl, (p, h, refl)))
+    rw r (inr (refl, refl, (p, h, refl)))
 between_step b p h true false e q =
     let r : turned_down Clock (size b.contents) b.registers.s ≡ Some 3 = rw (e, q) in
-    subst (λ (o : Option ℕ). StepKept false o o b (seen b)) (sym r) (inr (refl, refl, (p, h, refl)))
+    rw r (inr (refl, refl, (p, h, refl)))
 between_step b p h true true e q =
     let l = eqb-true (size b.contents) 4096 e in
     step_kept false (clocks (seen b) - 1) b (seen b) (cycle-agrees b p q h) h q q l l
@@ -205,20 +183,7 @@ one-call false x b t h = subst (λ (u : CycleBoard). Kept false x b u) h.2 (betw
 
 -- the twin of a board between cycles
 pub agree : (b : ClockBoard) (t : CycleBoard) → seen b ≡ t → Agree b t
-agree b t h = record {
-  contents = ap (λ (u : CycleBoard). u.contents) h;
-  ac = ap (λ (u : CycleBoard). u.visible.ac) h;
-  e = ap (λ (u : CycleBoard). u.visible.e) h;
-  pc = ap (λ (u : CycleBoard). u.visible.pc) h;
-  ien = ap (λ (u : CycleBoard). u.visible.ien) h;
-  r = ap (λ (u : CycleBoard). u.visible.r) h;
-  s = ap (λ (u : CycleBoard). u.visible.s) h;
-  fgi = ap (λ (u : CycleBoard). u.visible.port.fgi) h;
-  fgo = ap (λ (u : CycleBoard). u.visible.port.fgo) h;
-  inpr = ap (λ (u : CycleBoard). u.visible.port.inpr) h;
-  outr = ap (λ (u : CycleBoard). u.visible.port.outr) h;
-  lines = λ statuses. ap (λ (u : CycleBoard). u.rule statuses) h;
-}
+agree b t h = subst (Agree b) h (grind arith)
 
 pub twins : (calls : List Call) (b : ClockBoard) → b.registers.sc ≡ 0 → b.registers.pc < 4096 → Twins calls b (seen b)
 twins calls b p h =
@@ -242,30 +207,21 @@ cycle-granted-is t l s =
 
 -- n clocks and one more, by which a cycle ends
 module _ (k : ℕ) (t : CycleBoard) where
-  abbrev After : List Call → Called ℕ ClockBoard → Type 0
-  After xs x = seen (after_all on_clocked xs x.after) ≡ t
-
   clocks-after : (n : ℕ) (b : ClockBoard) → EndsAfter n b k t → b.registers.s ≡ true → size b.contents ≡ 4096
       → seen (after_all on_clocked (times (suc n)) b) ≡ t
-  clocks-after zero b e s l = subst (After []) (sym (clock-granted-is b l s)) e.2
+  clocks-after zero b e s l = rw (clock-granted-is b l s, after_all) e.2
   clocks-after (suc n) b e s l =
-      subst (After (times (suc n))) (sym (clock-granted-is b l s)) (clocks-after n (clocked b) e.2 e.1 (clock-size b ∙ l))
+      rw (clock-granted-is b l s, after_all) (clocks-after n (clocked b) e.2 e.1 (clock-size b ∙ l))
 
   abbrev one_cycle : ℕ → List Made
   one_cycle n = record { call = Clock; outcome = answered n } ∷ []
 
-  abbrev Short : Bool → List Call → Called ℕ ClockBoard → Type 0
-  Short i xs x = short_list i (record { call = Clock; outcome = x.outcome } ∷ made on_clocked xs x.after) ≡ one_cycle k
-
   clocks-short : (j : ℕ) → k ≡ suc j → (n : ℕ) (i : Bool) (b : ClockBoard) → EndsAfter n b k t → b.registers.s ≡ true
       → size b.contents ≡ 4096 → short_list i (made on_clocked (times (suc n)) b) ≡ one_cycle k
   clocks-short j q zero i b e s l =
-      subst (Short i []) (sym (clock-granted-is b l s))
-      (subst (λ (a : ℕ). Short i [] (gives a (clocked b))) (sym (e.0 ∙ q)) (ap one_cycle (sym q)))
+      rw (clock-granted-is b l s, made, e.0 ∙ q) (ap one_cycle (sym q))
   clocks-short j q (suc n) i b e s l =
-      subst (Short i (times (suc n))) (sym (clock-granted-is b l s))
-      (subst (λ (a : ℕ). Short i (times (suc n)) (gives a (clocked b))) (sym e.0)
-      (clocks-short j q n true (clocked b) e.2 e.1 (clock-size b ∙ l)))
+      rw (clock-granted-is b l s, made, e.0) (clocks-short j q n true (clocked b) e.2 e.1 (clock-size b ∙ l))
 
 pub cycle-by-clocks : CycleByClocks
 cycle-by-clocks b p q h l =

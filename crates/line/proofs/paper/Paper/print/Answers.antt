@@ -1,22 +1,14 @@
-use Rattle.std.proofs.Common.{take, drop, rules}
-use Rattle.line.proofs.Printing.{byte-printed, paper-full, flag_up}
+use Rattle.std.proofs.Common.{◌+◌, vec_items, refl, arith}
+use Rattle.std.proofs.lemmas.List.{drop_more, drop-set-lt, take_more_set}
 use Rattle.line.proofs.paper.Paper.print.Goals as goal
-use Rattle.line.proofs.paper.Paper.print.Goals.{then-status-via-then-status, then-status-via-else-status+then-self-len}
-
-pub returns-then-status : goal.returns-then-status
-returns-then-status c =
-    let before = c.args.self.now in
-    elim c.then-status.branch [
-      | then-status-via-then-status w ↦
-          let p = flag_up (take before.written before.bytes.items) (drop before.written before.bytes.items) c.args.status w.if-status.true in
-          search rules
-      | then-status-via-else-status+then-self-len w ↦
-          let p = paper-full before.bytes.items before.written c.args.status (search rules) in
-          search rules
-    ]
 
 pub returns : goal.returns
 returns c =
-    let before = c.args.self.now in
-    let p = byte-printed before.bytes.items before.written c.args.status (search rules) c.if-status.false in
-    record { reply_is = p.reply_is; printed_is = cc; blank_is = cc }
+    let bytes = vec_items c.args.self.now.bytes in
+    let written = c.args.self.now.written in
+    let rest = drop_more bytes written 0 (omega arith) in
+    rw (c.write.ensures.bytes, c.write.ensures.written, rest, c.if-status.false) (record {
+      reply_is = refl;
+      printed_is = take_more_set bytes written c.args.status.outr (omega arith);
+      blank_is = drop-set-lt (written + 1) bytes written c.args.status.outr (omega arith);
+    })
