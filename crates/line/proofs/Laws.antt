@@ -1,5 +1,5 @@
 -- The laws over whole lists, by one beat and induction.
-use Rattle.std.proofs.Common.{◌≡◌, ℕ, ◌+◌, ◌≤◌, Bool, true, false, cond, not, List, [], ◌∷◌, ◌++◌, map, length, take, drop, Some, None, sym, refl, ap, ◌∙◌, append_assoc, append-nil, arith, length-append}
+use Rattle.std.proofs.Common.{◌≡◌, ℕ, ◌+◌, ◌≤◌, Bool, cond, List, [], ◌∷◌, ◌++◌, map, length, take, drop, sym, refl, ap, append_assoc, append-nil, arith, length-append}
 use Rattle.line.specs.declared.cue.Cue.{Cue}
 use Rattle.line.specs.declared.status.Reply.{Reply}
 use Rattle.line.specs.declared.status.Status.{Status}
@@ -7,7 +7,7 @@ use Rattle.line.specs.Laws.{characters, outrs_printed, InOrder, OnPaper, HandsOv
 use Rattle.line.specs.Owed.{script-proper}
 use Rattle.line.specs.Printing.{prints, printed_after, blank_after}
 use Rattle.line.specs.Quiet.{quiet_reply, quiet_replies}
-use Rattle.line.specs.Script.{Script, raised, due, handed_over, cues_after, script_after, script_replies, script_after_all}
+use Rattle.line.specs.Script.{Script, raised, handed_over, cues_after, script_after, script_replies, script_after_all}
 
 -- The two equations of handing over in order.
 abbrev Handed : List Cue → List Reply → List Cue → Type 0

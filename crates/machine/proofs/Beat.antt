@@ -1,5 +1,5 @@
 -- What a beat keeps.
-use Rattle.std.proofs.Common.{◌≡◌, ℕ, Bool, true, false, ◌||◌, List, [], ◌∷◌, Some, None, refl, ap₂, arith}
+use Rattle.std.proofs.Common.{◌≡◌, ℕ, Bool, true, ◌||◌, List, [], ◌∷◌, Some, None, refl, ap₂, arith}
 use Rattle.std.proofs.lemmas.Bool.{or_right}
 use Rattle.line.specs.declared.status.Status.{Status}
 use Rattle.line.specs.declared.status.Reply.{Reply}

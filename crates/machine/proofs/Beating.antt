@@ -1,5 +1,5 @@
 -- Beats, one after the other.
-use Rattle.std.proofs.Common.{◌≡◌, ℕ, zero, suc, ◌+◌, sym, refl, ap, ◌∙◌, add-one}
+use Rattle.std.proofs.Common.{◌≡◌, ℕ, zero, suc, ◌+◌, refl, add-one}
 use Rattle.machine.specs.Beat.{Connection, beat, beats}
 
 -- one more beat at the end

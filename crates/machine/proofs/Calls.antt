@@ -1,5 +1,5 @@
 -- What a call on the clocked computer may do: be refused, or be granted.
-use Rattle.std.proofs.Common.{◌≡◌, ℕ, ◌<◌, Bool, true, false, cond, not, eqb, ltb, List, [], ◌∷◌, ◌++◌, Some, None, Option, sym, refl, ap, ap₂, true≢false, arith}
+use Rattle.std.proofs.Common.{◌≡◌, ℕ, ◌<◌, Bool, true, false, List, [], ◌∷◌, ◌++◌, Some, None, Option, refl, ap₂, arith}
 use Rattle.std.proofs.lemmas.Bool.Decides.{nat_tests}
 use Rattle.memory.specs.Contents.{Contents, size, stored}
 use Rattle.machine.specs.declared.call.Call.{Call}
@@ -8,7 +8,6 @@ use Rattle.machine.specs.Boards.{ClockBoard}
 use Rattle.machine.specs.Clock.{clocked, clocks_ended}
 use Rattle.machine.specs.Calls.{answered, turned_down, Called, refuses, unless, with_panel, clock_granted, on_clocked}
 use Rattle.machine.specs.Lists.{after_all, Step, no_clock, step}
-use Rattle.machine.specs.Laws.{granted}
 
 -- what holds of a refusal and of a granted call holds of the call
 pub call-cases : (x : Call) (b : ClockBoard) (P : Called ℕ ClockBoard → Type 0) → ((refusal : ℕ) → P (refuses refusal b))

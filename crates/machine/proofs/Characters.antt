@@ -1,11 +1,10 @@
 -- A character stays in INPR until it is taken.
-use Rattle.std.proofs.Common.{◌≡◌, ℕ, Bool, false, cond, ◌&&◌, List, [], ◌∷◌, Some, None, Option, sym, ap, ◌∙◌, true≢false}
+use Rattle.std.proofs.Common.{◌≡◌, ℕ, false, cond, List, [], ◌∷◌, Some, None, Option, ap, ◌∙◌}
 use Rattle.memory.specs.Contents.{size}
 use Rattle.line.specs.Rules.{Proper}
 use Rattle.machine.specs.declared.call.Call.{Call}
 use Rattle.machine.specs.declared.call.Call.TheVariants.{Clock, Start, Aim, Deposit, Examine}
 use Rattle.machine.specs.Words.{opcode}
-use Rattle.machine.specs.Beat.{arrived}
 use Rattle.machine.specs.Boards.{ClockBoard, new_clock_board}
 use Rattle.machine.specs.Gates.{ac_inpr}
 use Rattle.machine.specs.Clock.{connection, moved, clocked}

@@ -1,5 +1,5 @@
 -- The runs of the co-simulation, and their laws.
-use Rattle.std.proofs.Common.{◌≡◌, ℕ, Bool, true, false, cond, List, [], ◌∷◌, ◌++◌, sym, refl, ap, ◌∙◌, subst, append_assoc, append-nil, arith}
+use Rattle.std.proofs.Common.{◌≡◌, ℕ, Bool, false, cond, List, [], ◌∷◌, ◌++◌, sym, refl, ap, ◌∙◌, subst, append_assoc, append-nil, arith}
 use Rattle.memory.specs.Contents.{Contents}
 use Rattle.line.specs.Rules.{Rule, Proper, Alike}
 use Rattle.machine.specs.declared.call.Call.{Call}

@@ -1,5 +1,5 @@
 -- The clocks of a cycle leave what one cycle leaves.
-use Rattle.std.proofs.Common.{◌≡◌, ℕ, zero, suc, ◌-◌, ◌/◌, ◌<◌, ◌≤◌, Bool, true, false, cond, eqb, sym, refl, subst, mod-lt, arith, lit<, lit≤}
+use Rattle.std.proofs.Common.{◌≡◌, ℕ, zero, suc, ◌-◌, ◌/◌, ◌<◌, ◌≤◌, Bool, true, false, cond, eqb, refl, subst, mod-lt, arith, lit<}
 use Rattle.memory.specs.Contents.{fetched}
 use Rattle.machine.specs.Words.{bit, opcode, low12, up12}
 use Rattle.machine.specs.Beat.{Connection, beats}

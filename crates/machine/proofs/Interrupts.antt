@@ -1,17 +1,17 @@
 -- When an interrupt comes.
-use Rattle.std.proofs.Common.{◌≡◌, ℕ, zero, suc, ◌+◌, ◌<◌, ◌≤◌, Bool, true, false, cond, ◌⊎◌, List, [], ◌∷◌, Some, None, Option, sym, refl, ap, ◌∙◌, subst, inl, inr, true≢false, arith}
+use Rattle.std.proofs.Common.{◌≡◌, ℕ, zero, suc, ◌+◌, ◌<◌, ◌≤◌, Bool, true, false, cond, ◌⊎◌, List, [], ◌∷◌, Some, None, Option, sym, refl, ap, ◌∙◌, subst, inl, inr, arith}
 use Rattle.std.proofs.lemmas.Bool.{ne_eqb, or_parts, cases_lt, both_ways}
-use Rattle.memory.specs.Contents.{size, stored}
+use Rattle.memory.specs.Contents.{stored}
 use Rattle.machine.specs.declared.registers.Port.{Port}
 use Rattle.machine.specs.declared.call.Call.{Call}
-use Rattle.machine.specs.declared.call.Call.TheVariants.{Clock, Start, Aim, Deposit, Examine}
+use Rattle.machine.specs.declared.call.Call.TheVariants.{Clock}
 use Rattle.machine.specs.Words.{opcode}
 use Rattle.machine.specs.Beat.{Connection, flagged, beat}
 use Rattle.machine.specs.Boards.{ClockBoard, CycleBoard, seen, new_clock_board}
 use Rattle.machine.specs.Gates.{p, sc_clear}
 use Rattle.machine.specs.Clock.{connection, moved_at, after_beat, clocked, clocks_ended}
 use Rattle.machine.specs.Cycle.{cycled}
-use Rattle.machine.specs.Calls.{answered, turned_down, Called, with_panel, on_clocked}
+use Rattle.machine.specs.Calls.{answered, with_panel, on_clocked}
 use Rattle.machine.specs.Lists.{after_all, Step, step, Ended, beginning, under_way_then, ended_by, cycles, under_way}
 use Rattle.machine.specs.Laws.{InterruptCycle, First, InterruptNext, InterruptInTime}
 use Rattle.machine.proofs.Beat.{keeps-flag}

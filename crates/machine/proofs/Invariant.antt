@@ -1,10 +1,9 @@
 -- Every call keeps the registers of the clocked computer sound.
-use Rattle.std.proofs.Common.{◌≡◌, ℕ, zero, suc, ◌+◌, ◌/◌, ◌<◌, ◌≤◌, Bool, true, false, cond, ◌&&◌, List, [], ◌∷◌, sym, refl, subst, inl, inr, true≢false, mod-lt, arith, rules, lit<, lit≤}
-use Rattle.std.proofs.lemmas.Bool.{ne_eqb, cases_eq, or_left, or_right, both_ways, cond-true}
+use Rattle.std.proofs.Common.{◌≡◌, ℕ, zero, suc, ◌+◌, ◌/◌, ◌<◌, ◌≤◌, Bool, true, false, cond, ◌&&◌, List, [], ◌∷◌, sym, refl, subst, inl, inr, mod-lt, arith, rules, lit<, lit≤}
+use Rattle.std.proofs.lemmas.Bool.{ne_eqb, cases_eq, or_left, or_right, cond-true}
 use Rattle.memory.specs.Contents.{Contents, fetched}
 use Rattle.machine.specs.declared.registers.Registers.{Registers}
 use Rattle.machine.specs.declared.call.Call.{Call}
-use Rattle.machine.specs.declared.call.Call.TheVariants.{Clock, Start, Aim, Deposit, Examine}
 use Rattle.machine.specs.Words.{opcode, low12, up12}
 use Rattle.machine.specs.Boards.{ClockBoard, new_clock_board, new_registers, reaches_t5, Sound}
 use Rattle.machine.specs.Gates.{r, bus, ar_load, ar_clear, ar_increment, pc_load, pc_clear, pc_increment, skip, sc_clear, T, B}

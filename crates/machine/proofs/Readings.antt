@@ -1,19 +1,15 @@
 -- The readings.
-use Rattle.std.proofs.Common.{◌≡◌, ℕ, ◌<◌, Bool, true, false, ◌||◌, eqb, sym, refl, subst, arith}
+use Rattle.std.proofs.Common.{◌≡◌, ℕ, true, false, eqb, refl, arith}
 use Rattle.std.proofs.lemmas.Bool.{or_right}
-use Rattle.memory.specs.Contents.{Contents, size, fetched}
+use Rattle.memory.specs.Contents.{size}
 use Rattle.memory.proofs.Contents.{fetched-here}
-use Rattle.line.specs.Rules.{Rule}
 use Rattle.machine.specs.declared.call.Call.TheVariants.{Clock}
-use Rattle.machine.specs.Words.{opcode}
 use Rattle.machine.specs.Beat.{Connection, flagged, beat, beats}
-use Rattle.machine.specs.Boards.{ClockBoard, CycleBoard, seen, new_clock_board}
+use Rattle.machine.specs.Boards.{ClockBoard, CycleBoard, seen}
 use Rattle.machine.specs.Clock.{connection}
-use Rattle.machine.specs.Table.{address}
 use Rattle.machine.specs.Cycle.{clocks, cycled}
-use Rattle.machine.specs.Calls.{Called, on_cycled}
-use Rattle.machine.specs.Laws.{ByClocks}
-use Rattle.machine.specs.Readings.{BothRefuse, WrongSize, Aimed, Next, Leaves, AcE, Readings}
+use Rattle.machine.specs.Calls.{on_cycled}
+use Rattle.machine.specs.Readings.{WrongSize, Next, Leaves, Readings}
 use Rattle.machine.proofs.Beat.{keeps-flag}
 use Rattle.machine.proofs.Twins.{cycle-granted-is, cycle-by-clocks}
 

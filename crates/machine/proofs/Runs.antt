@@ -1,14 +1,13 @@
 -- A run is so many cycles.
 use Rattle.std.proofs.Common.{◌≡◌, ℕ, zero, suc, ◌+◌, ◌-◌, Bool, true, false, cond, eqb, refl, ap, ◌∙◌, arith}
-use Rattle.memory.specs.Contents.{Contents, size}
+use Rattle.memory.specs.Contents.{size}
 use Rattle.memory.proofs.Contents.{size-stored}
 use Rattle.machine.specs.Words.{opcode, up12}
 use Rattle.machine.specs.Boards.{CycleBoard}
 use Rattle.machine.specs.Table.{AND, ADD, LDA, STA, BUN, BSA, ISZ, MARKS, with_pc, interrupted}
 use Rattle.machine.specs.Cycle.{clocks, instruction, executed, beaten, cycled, Ran, ran}
-use Rattle.machine.specs.Calls.{Called, on_cycled}
 use Rattle.machine.specs.Lists.{made, after_all}
-use Rattle.machine.specs.Laws.{times, answer, all_answers, CycleByCycle, RunIsCycles}
+use Rattle.machine.specs.Laws.{all_answers, CycleByCycle, RunIsCycles}
 use Rattle.machine.proofs.Twins.{cycle-granted-is}
 
 -- a cycle keeps the size of the memory
