@@ -1,5 +1,5 @@
 //! Both benches side by side.
-use crate::counts::{Counts, Limit, Stop, count_outcomes};
+use crate::counts::{Counts, Stop, count_outcomes};
 use crate::ending::Ending;
 use crate::run::Run;
 use crate::setup::Setup;
@@ -50,23 +50,15 @@ fn tell_agreement(
 }
 
 /// How many clocks a session takes, which the instruction bench alone can tell, and why it ends.
-fn clocks_of(
-    rt: &HostRuntime,
-    setup: &Setup,
-    limit: Limit,
-) -> Result<(u64, Stop), Trouble<'static>> {
+fn clocks_of(rt: &HostRuntime, setup: &Setup) -> Result<(u64, Stop), Trouble<'static>> {
     let mut run: Run<CycleComputer> = Run::start(rt, setup)?;
-    let stop = run.to_end(rt, limit)?;
-    Ok((run.counts.clocks.min(limit.clocks), stop))
+    let stop = run.to_end(rt)?;
+    Ok((run.counts.clocks.min(setup.limit.clocks), stop))
 }
 
 /// Makes the calls on the clock bench and their short list on the instruction bench, and tells whether they agree.
-pub(crate) fn run_both(
-    rt: &HostRuntime,
-    setup: &Setup,
-    limit: Limit,
-) -> Result<Ending, Trouble<'static>> {
-    let (clocks, stop) = clocks_of(rt, setup, limit)?;
+pub(crate) fn run_both(rt: &HostRuntime, setup: &Setup) -> Result<Ending, Trouble<'static>> {
+    let (clocks, stop) = clocks_of(rt, setup)?;
     let calls = session_calls(rt, setup.from, clocks)?;
     let mut memory = setup.memory()?;
     let mut line = setup.line(rt)?;

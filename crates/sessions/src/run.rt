@@ -15,6 +15,7 @@ pub struct Run<B: Bench> {
     computer: B,
     memory: ImageMemory,
     line: ScriptLine,
+    limit: Limit,
     pub counts: Counts,
     /// The step that was made last.
     step: B::Step,
@@ -30,6 +31,7 @@ impl<B: Bench> Run<B> {
             computer,
             memory: setup.memory()?,
             line: setup.line(rt)?,
+            limit: setup.limit,
             counts: Counts::nothing(),
             step: B::Step::default(),
         })
@@ -47,9 +49,9 @@ impl<B: Bench> Run<B> {
         }
     }
 
-    /// One step, unless a limit is reached. Answers why the session ends, if it does.
-    fn step(&mut self, limit: Limit) -> Option<Stop> {
-        if self.counts.reach(limit) {
+    /// One step, unless the limit is reached. Answers why the session ends, if it does.
+    fn step(&mut self) -> Option<Stop> {
+        if self.counts.reach(self.limit) {
             return Some(Stop::Budget);
         }
         self.computer.note(&self.memory, &mut self.step);
@@ -64,13 +66,9 @@ impl<B: Bench> Run<B> {
     }
 
     /// Steps until the session ends, with word of it now and then. The bound is never met: it shows that the loop ends.
-    pub(crate) fn to_end(
-        &mut self,
-        rt: &HostRuntime,
-        limit: Limit,
-    ) -> Result<Stop, Trouble<'static>> {
+    pub(crate) fn to_end(&mut self, rt: &HostRuntime) -> Result<Stop, Trouble<'static>> {
         for _ in 0..u64::MAX {
-            if let Some(stop) = (0..CHUNK).find_map(|_| self.step(limit)) {
+            if let Some(stop) = (0..CHUNK).find_map(|_| self.step()) {
                 return Ok(stop);
             }
             tell_progress(rt, self.counts)?;
@@ -80,17 +78,13 @@ impl<B: Bench> Run<B> {
 
     /// The same with a row for each step.
     // A loop of its own: one with a closure for the row would be called at every step of an untraced session too.
-    pub(crate) fn trace(
-        &mut self,
-        rt: &HostRuntime,
-        limit: Limit,
-    ) -> Result<Stop, Trouble<'static>> {
+    pub(crate) fn trace(&mut self, rt: &HostRuntime) -> Result<Stop, Trouble<'static>> {
         rt.println(B::heading())?;
         for _ in 0..u64::MAX {
-            if self.counts.reach(limit) {
+            if self.counts.reach(self.limit) {
                 break;
             }
-            let stop = self.step(limit);
+            let stop = self.step();
             let row = self.computer.row(rt.alloc(), self.step)?;
             say_line(rt, row.as_slice())?;
             if let Some(stop) = stop {

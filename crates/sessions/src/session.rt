@@ -35,14 +35,13 @@ fn check_together(options: Options) -> Result<(), Trouble<'static>> {
 fn run_on<B: Bench>(
     rt: &HostRuntime,
     setup: &Setup,
-    limit: Limit,
     trace: bool,
 ) -> Result<Ending, Trouble<'static>> {
     let mut run: Run<B> = Run::start(rt, setup)?;
     let stop = if trace {
-        run.trace(rt, limit)?
+        run.trace(rt)?
     } else {
-        run.to_end(rt, limit)?
+        run.to_end(rt)?
     };
     Ok(run.end(stop))
 }
@@ -86,13 +85,12 @@ fn save<'a>(rt: &HostRuntime, name: &'a str, memory: ImageMemory) -> Result<(), 
 
 /// Runs on the bench that the options ask for.
 fn run(rt: &HostRuntime, setup: &Setup, options: Options) -> Result<Ending, Trouble<'static>> {
-    let limit = Limit::of(options);
     if options.both {
-        run_both(rt, setup, limit)
+        run_both(rt, setup)
     } else if options.clock {
-        run_on::<ClockComputer>(rt, setup, limit, options.trace)
+        run_on::<ClockComputer>(rt, setup, options.trace)
     } else {
-        run_on::<CycleComputer>(rt, setup, limit, options.trace)
+        run_on::<CycleComputer>(rt, setup, options.trace)
     }
 }
 
@@ -115,7 +113,7 @@ pub(crate) fn try_session<'a>(rt: &HostRuntime, asked: Asked<'a>) -> Result<(), 
     }
     ending.tell(rt)?;
     if let Stop::Budget = ending.stop {
-        tell_budget(rt, Limit::of(options))?;
+        tell_budget(rt, setup.limit)?;
     }
     if let Some(name) = asked.word(options.save) {
         save(rt, name, ending.memory)?;

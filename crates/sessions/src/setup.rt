@@ -1,5 +1,6 @@
 //! What a session starts from: the words in memory and the characters to come.
 use crate::asked::Asked;
+use crate::counts::Limit;
 use crate::script::read_script;
 use crate::trouble::Trouble;
 use line::{Cue, ScriptLine};
@@ -12,13 +13,14 @@ use std::fs;
 /// How many bytes an image of 4096 words has.
 const IMAGE: usize = 8192;
 
-/// The image of the memory, the characters to come, the room on the paper, and where to start.
+/// The image of the memory, the characters to come, the room on the paper, where to start, and what may be made at most.
 #[derive(Drop)]
 pub struct Setup {
     image: Vec<u8>,
     cues: Vec<Cue>,
     paper: usize,
     pub from: u16,
+    pub limit: Limit,
 }
 
 impl Setup {
@@ -101,5 +103,6 @@ pub(crate) fn set_up<'a>(rt: &HostRuntime, asked: Asked<'a>) -> Result<Setup, Tr
         cues,
         paper: options.paper as usize,
         from: options.from.unwrap_or(lowest),
+        limit: Limit::of(options),
     })
 }
