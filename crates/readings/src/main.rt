@@ -1,7 +1,7 @@
 //! Holds both benches against readings from the board and against a second simulator.
 #![tactic(auto)]
 
-mod board;
+mod panel;
 mod random;
 mod rig;
 mod second;
@@ -10,7 +10,7 @@ mod trial;
 
 ghost use Rattle.std.specs.Prelude.{◌≤◌, length};
 
-use board::try_panel;
+use panel::try_panel;
 use random::{try_marks, try_random};
 use std::{env, fs, slice};
 use tally::Tally;

@@ -51,7 +51,7 @@ impl Experiment {
     fn make(&mut self, rig: &mut Rig, call: Call) -> Result<bool, Difference> {
         let outcome = rig.call(call)?;
         self.coverage.count_call(call, outcome);
-        let ir = rig.computer.registers().ir;
+        let ir = rig.clock.computer.registers().ir;
         Ok(self.coverage.count_cycle(call, outcome, ir))
     }
 
@@ -63,7 +63,7 @@ impl Experiment {
             if made >= cycles {
                 break;
             }
-            let call = random_call(&mut self.dice, rig.computer.registers().s);
+            let call = random_call(&mut self.dice, rig.clock.computer.registers().s);
             if self.make(rig, call)? {
                 made += 1;
             }
@@ -83,7 +83,7 @@ impl Experiment {
         let paper = usize::from(self.dice.roll(400));
         let mut rig = Rig::new(heap, words.as_slice(), cues.as_slice(), paper)?;
         let tried = self.try_calls(&mut rig, CYCLES_OF_A_MEMORY);
-        self.coverage.count_line(&rig.line, cues.len());
+        self.coverage.count_line(&rig.clock.line, cues.len());
         Ok(tried)
     }
 

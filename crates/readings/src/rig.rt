@@ -1,15 +1,17 @@
 //! Both benches, and the second simulator by clocks and by cycles, side by side.
+pub(crate) mod board;
 pub(crate) mod compare;
 pub(crate) mod difference;
 mod outcome;
 
+use crate::rig::board::Board;
 use crate::second;
 use crate::second::{Key, Second, Teletype};
 use clock_bench::ClockComputer;
 use cycle_bench::CycleComputer;
 pub(crate) use difference::{Bench, Difference};
 use line::{Cue, ScriptLine};
-use machine::{Call, Computer, Refusal};
+use machine::Call;
 use memory::{ImageMemory, WordMemory};
 pub(crate) use outcome::{Outcome, Refused};
 use std::alloc::{AllocError, Global};
@@ -18,12 +20,8 @@ use std::alloc::{AllocError, Global};
 /// instruction bench on an image.
 #[derive(Drop)]
 pub(crate) struct Rig {
-    pub computer: ClockComputer,
-    pub memory: WordMemory,
-    pub line: ScriptLine,
-    pub twin: CycleComputer,
-    pub twin_memory: ImageMemory,
-    pub twin_line: ScriptLine,
+    pub clock: Board<ClockComputer, WordMemory>,
+    pub instruction: Board<CycleComputer, ImageMemory>,
     pub by_clocks: Second,
     pub by_cycles: Second,
     inside: bool,
@@ -78,11 +76,6 @@ fn ask<F: FnOnce(&mut Second) -> Result<u32, second::Refusal>>(
     Ok(0)
 }
 
-/// What a bench returned.
-fn told(returned: Result<u16, Refusal>) -> Outcome {
-    Ok(u32::from(returned?))
-}
-
 impl Rig {
     /// New computers over these words, with these characters to come and room for so many to be printed.
     pub(crate) fn new(
@@ -92,32 +85,20 @@ impl Rig {
         paper: usize,
     ) -> Result<Rig, AllocError> {
         Ok(Rig {
-            computer: ClockComputer::new(),
-            memory: WordMemory::new(words.to_vec(heap)?),
-            line: script_line(heap, cues, paper)?,
-            twin: CycleComputer::new(),
-            twin_memory: ImageMemory::new(image(heap, words)?),
-            twin_line: script_line(heap, cues, paper)?,
+            clock: Board {
+                computer: ClockComputer::new(),
+                memory: WordMemory::new(words.to_vec(heap)?),
+                line: script_line(heap, cues, paper)?,
+            },
+            instruction: Board {
+                computer: CycleComputer::new(),
+                memory: ImageMemory::new(image(heap, words)?),
+                line: script_line(heap, cues, paper)?,
+            },
             by_clocks: second_board(heap, words, cues, paper)?,
             by_cycles: second_board(heap, words, cues, paper)?,
             inside: false,
         })
-    }
-
-    /// A call on the clock bench.
-    pub(crate) fn on_clock_bench(&mut self, call: Call) -> Outcome {
-        told(
-            self.computer
-                .perform(call, &mut self.memory, &mut self.line),
-        )
-    }
-
-    /// A call on the instruction bench.
-    pub(crate) fn on_instruction_bench(&mut self, call: Call) -> Outcome {
-        told(
-            self.twin
-                .perform(call, &mut self.twin_memory, &mut self.twin_line),
-        )
     }
 
     /// A call on the second simulator, by clocks.
@@ -129,9 +110,9 @@ impl Rig {
     /// an examine made inside one. Everything is compared.
     // The rule stands here again, apart from the co-simulation's: what tests the definitions shares none of them.
     pub(crate) fn call(&mut self, call: Call) -> Result<Outcome, Difference> {
-        let ours = self.on_clock_bench(call);
+        let ours = self.clock.call(call);
         let second = self.on_second(call);
-        compare::outcomes(Bench::Clock, ours, second)?;
+        Bench::Clock.check_outcome(ours, second)?;
         self.compare_clocked()?;
         let struck = match call {
             Call::Clock => ours == Ok(0),
@@ -139,10 +120,10 @@ impl Rig {
             _ => false,
         };
         if !struck {
-            let twin = self.on_instruction_bench(call);
-            compare::outcomes(Bench::Instruction, twin, ours)?;
+            let twin = self.instruction.call(call);
+            Bench::Instruction.check_outcome(twin, ours)?;
             let second = ask(&mut self.by_cycles, call, |board| board.cycle());
-            compare::outcomes(Bench::Instruction, twin, second)?;
+            Bench::Instruction.check_outcome(twin, second)?;
         }
         if let (Call::Clock, Ok(clocks)) = (call, ours) {
             self.inside = clocks == 0;

@@ -22,7 +22,7 @@ fn run(rig: &mut Rig, from: u16, cycles: u32) -> Result<(), Difference> {
     // counts cycles that ended, not turns
     let mut made = 0;
     for _ in 0..7 * u64::from(cycles) {
-        if made >= cycles || !rig.computer.registers().s {
+        if made >= cycles || !rig.clock.computer.registers().s {
             break;
         }
         if rig.call(Call::Clock)? != Ok(0) {

@@ -15,7 +15,7 @@ impl Experiment {
         self.make(rig, Call::Aim(0x100))?;
         self.make(rig, Call::Start)?;
         for _ in 0..100u32 {
-            if !rig.computer.registers().s {
+            if !rig.clock.computer.registers().s {
                 break;
             }
             self.make(rig, Call::Clock)?;
@@ -64,6 +64,6 @@ pub(crate) fn try_marks(rt: &HostRuntime, seed: u32) -> anyhow::Result<()> {
     let words = vec![in rt.alloc(); 0; 4096]?;
     let mut rig = Rig::new(rt.alloc(), words.as_slice(), cues.as_slice(), 4096)?;
     let tried = experiment.try_every_word(&mut rig);
-    experiment.coverage.count_line(&rig.line, cues.len());
+    experiment.coverage.count_line(&rig.clock.line, cues.len());
     experiment.tell(rt, tried.map_err(|difference| (0, difference)))
 }

@@ -1,20 +1,11 @@
 //! Comparing a bench with the second simulator.
 use crate::rig::Rig;
-use crate::rig::difference::{Bench, Difference};
+use crate::rig::difference::{Bench, Difference, What};
 use crate::rig::outcome::Outcome;
 use crate::second::Register::*;
-use crate::second::{Numbers, Register};
+use crate::second::{Numbers, Register, Teletype};
 use machine::{Port, Registers, Visible};
 use memory::Memory;
-
-/// What a call returned.
-pub(crate) fn outcomes(bench: Bench, ours: Outcome, theirs: Outcome) -> Result<(), Difference> {
-    if ours == theirs {
-        Ok(())
-    } else {
-        Err(Difference::Outcome(bench, ours, theirs))
-    }
-}
 
 /// The registers of a port.
 fn put_port(numbers: &mut Numbers, port: Port) {
@@ -60,53 +51,73 @@ impl From<Visible> for Numbers {
     }
 }
 
-/// The registers that are meant.
-fn registers<F: Fn(Register) -> bool>(
-    bench: Bench,
-    ours: &Numbers,
-    theirs: &Numbers,
-    meant: F,
-) -> Result<(), Difference>
-    requires { F.IsAlwaysCallable meant }
-{
-    for register in Register::ALL {
-        let mine = ours.get(register);
-        let other = theirs.get(register);
-        if meant(register) && mine != other {
-            return Err(Difference::Register(bench, register, mine, other));
+impl Bench {
+    /// That something differs on this bench.
+    fn differs(self, what: What) -> Difference {
+        Difference { bench: self, what }
+    }
+
+    /// Refuses where a call returned something else.
+    pub(crate) fn check_outcome(self, ours: Outcome, theirs: Outcome) -> Result<(), Difference> {
+        if ours == theirs {
+            Ok(())
+        } else {
+            Err(self.differs(What::Outcome(ours, theirs)))
         }
     }
-    Ok(())
-}
 
-/// One word.
-fn word(bench: Bench, address: u16, ours: u32, theirs: u32) -> Result<(), Difference> {
-    if ours == theirs {
+    /// Refuses where a register that is meant differs.
+    fn check_registers<F: Fn(Register) -> bool>(
+        self,
+        ours: &Numbers,
+        theirs: &Numbers,
+        meant: F,
+    ) -> Result<(), Difference>
+        requires { F.IsAlwaysCallable meant }
+    {
+        for register in Register::ALL {
+            let mine = ours.get(register);
+            let other = theirs.get(register);
+            if meant(register) && mine != other {
+                return Err(self.differs(What::Register(register, mine, other)));
+            }
+        }
         Ok(())
-    } else {
-        Err(Difference::Word(bench, address, ours, theirs))
+    }
+
+    /// Refuses where a word differs.
+    fn check_word(self, address: u16, ours: u32, theirs: u32) -> Result<(), Difference> {
+        if ours == theirs {
+            Ok(())
+        } else {
+            Err(self.differs(What::Word(address, ours, theirs)))
+        }
+    }
+
+    /// Refuses where other characters are printed.
+    fn check_printed(self, ours: &[u8], theirs: &Teletype) -> Result<(), Difference> {
+        if theirs.shows(ours) {
+            Ok(())
+        } else {
+            Err(self.differs(What::Printed))
+        }
     }
 }
 
 impl Rig {
     /// The registers of the clock bench.
     pub(crate) fn clock_numbers(&self) -> Numbers {
-        Numbers::from(self.computer.registers())
+        Numbers::from(self.clock.computer.registers())
     }
 
     /// The registers of the instruction bench.
     pub(crate) fn instruction_numbers(&self) -> Numbers {
-        Numbers::from(self.twin.visible())
+        Numbers::from(self.instruction.computer.visible())
     }
 
     /// After each call: every register of the clock bench.
     pub(crate) fn compare_clocked(&self) -> Result<(), Difference> {
-        registers(
-            Bench::Clock,
-            &self.clock_numbers(),
-            &self.by_clocks.numbers,
-            |_| true,
-        )
+        Bench::Clock.check_registers(&self.clock_numbers(), &self.by_clocks.numbers, |_| true)
     }
 
     /// Every word of both memories: the clock bench's against the second simulator by clocks and by cycles.
@@ -115,11 +126,11 @@ impl Rig {
         for address in 0..4096u16 {
             let by_clocks = self.by_clocks.word(u32::from(address));
             let by_cycles = self.by_cycles.word(u32::from(address));
-            let ours = u32::from(self.memory.fetch(address));
-            word(Bench::Clock, address, ours, by_clocks)?;
-            word(Bench::Clock, address, ours, by_cycles)?;
-            let ours = u32::from(self.twin_memory.fetch(address));
-            word(Bench::Instruction, address, ours, by_cycles)?;
+            let ours = u32::from(self.clock.memory.fetch(address));
+            Bench::Clock.check_word(address, ours, by_clocks)?;
+            Bench::Clock.check_word(address, ours, by_cycles)?;
+            let ours = u32::from(self.instruction.memory.fetch(address));
+            Bench::Instruction.check_word(address, ours, by_cycles)?;
         }
         Ok(())
     }
@@ -127,22 +138,16 @@ impl Rig {
     /// Between cycles: what a program can see on all four, every word and every printed character.
     pub(crate) fn compare_whole(&self) -> Result<(), Difference> {
         let theirs = self.by_cycles.numbers;
-        registers(Bench::Clock, &self.clock_numbers(), &theirs, |register| {
+        Bench::Clock.check_registers(&self.clock_numbers(), &theirs, |register| {
             register.is_visible()
         })?;
-        registers(
-            Bench::Instruction,
+        Bench::Instruction.check_registers(
             &self.instruction_numbers(),
             &theirs,
             |register| register.is_visible(),
         )?;
         self.compare_words()?;
-        if !self.by_clocks.teletype.shows(self.line.printed()) {
-            return Err(Difference::Printed(Bench::Clock));
-        }
-        if !self.by_cycles.teletype.shows(self.twin_line.printed()) {
-            return Err(Difference::Printed(Bench::Instruction));
-        }
-        Ok(())
+        Bench::Clock.check_printed(self.clock.line.printed(), &self.by_clocks.teletype)?;
+        Bench::Instruction.check_printed(self.instruction.line.printed(), &self.by_cycles.teletype)
     }
 }

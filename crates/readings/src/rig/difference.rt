@@ -10,13 +10,20 @@ pub enum Bench {
     Instruction,
 }
 
-/// The first thing that differs: what the bench has, then what the second simulator has.
+/// The first thing that differs between a bench and the second simulator.
 #[derive(Clone, Copy, Debug)]
-pub enum Difference {
-    Outcome(Bench, Outcome, Outcome),
-    Register(Bench, Register, u32, u32),
-    Word(Bench, u16, u32, u32),
-    Printed(Bench),
+pub struct Difference {
+    pub bench: Bench,
+    pub what: What,
+}
+
+/// What differs: what the bench has, then what the second simulator has.
+#[derive(Clone, Copy, Debug)]
+pub enum What {
+    Outcome(Outcome, Outcome),
+    Register(Register, u32, u32),
+    Word(u16, u32, u32),
+    Printed,
 }
 
 /// What a call returned, in words.
@@ -43,26 +50,27 @@ impl fmt::Display for Bench {
 
 impl fmt::Display for Difference {
     fn fmt<W: fmt::Write>(&self, f: &mut fmt::Formatter<W>) -> fmt::Result {
-        match *self {
-            Difference::Outcome(bench, ours, theirs) => {
+        let Difference { bench, what } = *self;
+        match what {
+            What::Outcome(ours, theirs) => {
                 let ours = Shown(ours);
                 let theirs = Shown(theirs);
                 write!(f, "the {bench} {ours}, the second simulator {theirs}")
             }
-            Difference::Register(bench, register, ours, theirs) => {
+            What::Register(register, ours, theirs) => {
                 let name = register.name();
                 write!(
                     f,
                     "{name} is {ours:X} on the {bench}, {theirs:X} on the second simulator"
                 )
             }
-            Difference::Word(bench, address, ours, theirs) => {
+            What::Word(address, ours, theirs) => {
                 write!(
                     f,
                     "the word at {address:03X} is {ours:04X} on the {bench}, {theirs:04X} on the second simulator"
                 )
             }
-            Difference::Printed(bench) => {
+            What::Printed => {
                 write!(
                     f,
                     "the {bench} and the second simulator printed other characters"

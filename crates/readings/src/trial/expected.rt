@@ -79,9 +79,9 @@ impl Expected<'_> {
             Expected::Register(register, _) => {
                 Expected::Register(register, rig.clock_numbers().get(register))
             }
-            Expected::Word(address, _) => Expected::Word(address, rig.memory.fetch(address)),
+            Expected::Word(address, _) => Expected::Word(address, rig.clock.memory.fetch(address)),
             Expected::Printed(text) => {
-                let read = rig.line.printed();
+                let read = rig.clock.line.printed();
                 let shown = String::from_utf8_lossy(rt.alloc(), read)?;
                 print!(rt; " printed {shown}")?;
                 return Ok(read == text.as_bytes());

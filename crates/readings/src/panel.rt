@@ -1,4 +1,5 @@
 //! Readings of the panel, which no sheet can make.
+use crate::rig::board::Board;
 use crate::rig::difference::Shown;
 use crate::rig::{Outcome, Refused, Rig};
 use crate::tally::Tally;
@@ -17,13 +18,13 @@ fn returned(
     let words = vec![in rt.alloc(); 0; size]?;
     let mut rig = Rig::new(rt.alloc(), words.as_slice(), &[], 0)?;
     if started {
-        let _ = rig.on_clock_bench(Call::Start);
-        let _ = rig.on_instruction_bench(Call::Start);
+        let _ = rig.clock.call(Call::Start);
+        let _ = rig.instruction.call(Call::Start);
         let _ = rig.on_second(Call::Start);
     }
     Ok([
-        rig.on_clock_bench(call),
-        rig.on_instruction_bench(call),
+        rig.clock.call(call),
+        rig.instruction.call(call),
         rig.on_second(call),
     ])
 }
@@ -52,8 +53,13 @@ fn tell(
 fn run_returned(rt: &HostRuntime, size: usize) -> anyhow::Result<Outcome> {
     let words = vec![in rt.alloc(); 0; size]?;
     let mut rig = Rig::new(rt.alloc(), words.as_slice(), &[], 0)?;
-    let _ = rig.on_instruction_bench(Call::Start);
-    let ran = rig.twin.run(&mut rig.twin_memory, &mut rig.twin_line, 5);
+    let _ = rig.instruction.call(Call::Start);
+    let Board {
+        computer,
+        memory,
+        line,
+    } = &mut rig.instruction;
+    let ran = computer.run(memory, line, 5);
     Ok(
         ran.map(|(cycles, _)| u32::from(cycles))
             .map_err(Refused::from),
