@@ -7,7 +7,8 @@ use Rattle.line.specs.Laws.{characters, outrs_printed, InOrder, OnPaper, HandsOv
 use Rattle.line.specs.Owed.{script-proper}
 use Rattle.line.specs.Printing.{prints, printed_after, blank_after}
 use Rattle.line.specs.Quiet.{quiet_reply, quiet_replies}
-use Rattle.line.specs.Script.{Script, raised, handed_over, cues_after, script_after, script_replies, script_after_all}
+use Rattle.line.specs.Cues.{raised, handed_over, cues_after}
+use Rattle.line.specs.Script.{Script, script_after, script_replies, script_after_all}
 
 -- The two equations of handing over in order.
 abbrev Handed : List Cue → List Reply → List Cue → Type 0

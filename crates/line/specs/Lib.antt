@@ -3,4 +3,5 @@ pub mod Owed
 pub mod Printing
 pub mod Quiet
 pub mod Rules
+pub mod Cues
 pub mod Script

@@ -7,7 +7,8 @@ use Rattle.line.specs.declared.status.Status.{Status}
 use Rattle.line.specs.Printing.{prints}
 use Rattle.line.specs.Quiet.{quiet_reply, quiet_replies}
 use Rattle.line.specs.Rules.{Fitting, Proper}
-use Rattle.line.specs.Script.{Script, raised, handed_over, script_reply, script_after, script_replies}
+use Rattle.line.specs.Cues.{raised, handed_over}
+use Rattle.line.specs.Script.{Script, script_reply, script_after, script_replies}
 
 quiet-fitting : (statuses : List Status) → Fitting statuses (quiet_replies statuses)
 quiet-fitting [] = tt

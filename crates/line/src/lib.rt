@@ -5,6 +5,7 @@
 #![tactic(auto)]
 
 pub mod cue;
+mod cues;
 pub mod line;
 mod paper;
 pub mod playing;

@@ -3,6 +3,7 @@ ghost use Rattle.std.specs.Prelude.{◌≡◌, ◌++◌};
 ghost use Rattle.line.specs.Script.{script_of, new_script};
 
 use crate::cue::Cue;
+use crate::cues::Cues;
 use crate::paper::Paper;
 use crate::script_line::ScriptLine;
 
@@ -12,9 +13,7 @@ impl ScriptLine {
         ensures { script_of result ≡ new_script cues.items paper.items }
     {
         ScriptLine {
-            cues,
-            next: 0,
-            count: 0,
+            cues: Cues::new(cues),
             paper: Paper::new(paper),
         }
     }
@@ -30,7 +29,7 @@ impl ScriptLine {
     pub fn remaining(&self) -> &[Cue]
         ensures { result.now ≡ (script_of self.now).cues }
     {
-        self.cues.split_at(self.next).1
+        self.cues.remaining()
     }
 
     /// The paper, whole: what is printed, then the places that were not written.
