@@ -65,6 +65,7 @@ fn interrupt(clocks: u16) -> u64
 
 impl Counts {
     /// Nothing made.
+    // A function with a contract: of a derived default no clause says that it is this.
     pub(crate) fn nothing() -> Counts
         ensures { result ≡ nothing }
     {
