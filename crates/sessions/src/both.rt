@@ -20,7 +20,7 @@ fn session_calls(rt: &HostRuntime, from: u16, clocks: u64) -> Result<Vec<Call>, 
 fn count_clocks(outcomes: &[Outcome]) -> Counts {
     match outcomes {
         [_, _, clocks @ ..] => count_outcomes(clocks),
-        _ => Counts::nothing(),
+        _ => Counts::default(),
     }
 }
 

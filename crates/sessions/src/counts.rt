@@ -10,7 +10,7 @@ use std::fmt;
 const CYCLES: u64 = 100_000;
 
 /// What a run made so far.
-#[derive(Clone, Copy, Debug)]
+#[derive(Clone, Copy, Debug, Default)]
 pub struct Counts {
     pub cycles: u64,
     pub clocks: u64,
@@ -64,18 +64,6 @@ fn interrupt(clocks: u16) -> u64
 }
 
 impl Counts {
-    /// Nothing made.
-    // A function with a contract: of a derived default no clause says that it is this.
-    pub(crate) fn nothing() -> Counts
-        ensures { result ≡ nothing }
-    {
-        Counts {
-            cycles: 0,
-            clocks: 0,
-            interrupts: 0,
-        }
-    }
-
     /// One cycle more, of so many clocks.
     pub(crate) fn with_cycle(self, clocks: u16) -> Counts
         ensures { result ≡ cycle_counted clocks self }
@@ -122,7 +110,7 @@ pub(crate) fn count_outcomes(outcomes: &[Outcome]) -> Counts
     ensures { result ≡ outcomes_counted nothing outcomes.now }
 {
     // a `for`: with a fold the proof did not close
-    let mut counts = Counts::nothing();
+    let mut counts = Counts::default();
     for outcome in outcomes {
         counts = counts.with_outcome(*outcome);
     }

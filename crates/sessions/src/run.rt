@@ -32,7 +32,7 @@ impl<B: Bench> Run<B> {
             memory: setup.memory()?,
             line: setup.line(rt)?,
             limit: setup.limit,
-            counts: Counts::nothing(),
+            counts: Counts::default(),
             step: B::Step::default(),
         })
     }
