@@ -46,8 +46,8 @@ impl Options {
             Valued::From => o.from = Some(address(value)?),
             Valued::Cycles => o.cycles = Some(long_decimal(value)?),
             Valued::Clocks => o.clocks = Some(long_decimal(value)?),
-            Valued::Wait => o.wait = number_up_to(65535, value)? as u16,
-            Valued::Paper => o.paper = number_up_to(1_000_000, value)? as u32,
+            Valued::Wait => o.wait = u16::try_from(long_decimal(value)?).ok()?,
+            Valued::Paper => o.paper = number_up_to(1_000_000, value)?,
             Valued::Examine => o.examine = Some(addresses(value)?),
         }
         Some(o)
