@@ -54,25 +54,27 @@ pub enum OptionFault {
 }
 
 /// What no words ask for.
-pub(crate) fn no_options() -> Options
-    ensures { result ≡ defaults }
-{
-    Options {
-        sheet: None,
-        image: None,
-        save: None,
-        script: None,
-        input: None,
-        clock: false,
-        both: false,
-        trace: false,
-        time: false,
-        help: false,
-        from: None,
-        cycles: None,
-        clocks: None,
-        wait: 0,
-        paper: 4096,
-        examine: None,
+impl Default for Options {
+    ghost is_default = { λ o. o ≡ defaults };
+
+    fn default() -> Options {
+        Options {
+            sheet: None,
+            image: None,
+            save: None,
+            script: None,
+            input: None,
+            clock: false,
+            both: false,
+            trace: false,
+            time: false,
+            help: false,
+            from: None,
+            cycles: None,
+            clocks: None,
+            wait: 0,
+            paper: 4096,
+            examine: None,
+        }
     }
 }

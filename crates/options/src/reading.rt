@@ -5,8 +5,7 @@ ghost use Rattle.options.specs.Grammar.{Asked, Refused};
 ghost use Rattle.options.specs.Bounds.{Within};
 ghost use Rattle.options.specs.Reading.{by_word, by_value, next, finished, bytes_of, options_of};
 
-use crate::options::{OptionFault, Options, no_options};
-use crate::told::{with_flag, with_sheet, with_value};
+use crate::options::{OptionFault, Options};
 use crate::word::{Valued, Word, word_of};
 
 /// The options so far, and the option that waits for its value, with its place.
@@ -16,54 +15,53 @@ pub(crate) struct Reading {
     pub waiting: Option<(Valued, usize)>,
 }
 
-/// One word more, where no value is due.
-fn read_word(options: Options, place: usize, word: &str) -> Result<Reading, OptionFault>
-    ensures { result ≡ by_word options place word.now }
-{
-    let (options, waiting) = match word_of(word).ok_or(OptionFault::Unknown(place))? {
-        Word::Sheet if options.sheet.is_some() => return Err(OptionFault::SecondSheet(place)),
-        Word::Sheet => (with_sheet(options, place), None),
-        Word::Alone(flag) => (with_flag(options, flag), None),
-        Word::Awaits(valued) => (options, Some((valued, place))),
-    };
-    Ok(Reading { options, waiting })
-}
+impl Options {
+    /// One word more, where no value is due.
+    fn read_word(self, place: usize, word: &str) -> Result<Reading, OptionFault>
+        ensures { result ≡ by_word self place word.now }
+    {
+        let (options, waiting) = match word_of(word).ok_or(OptionFault::Unknown(place))? {
+            Word::Sheet if self.sheet.is_some() => return Err(OptionFault::SecondSheet(place)),
+            Word::Sheet => (self.with_sheet(place), None),
+            Word::Alone(flag) => (self.with_flag(flag), None),
+            Word::Awaits(valued) => (self, Some((valued, place))),
+        };
+        Ok(Reading { options, waiting })
+    }
 
-/// The value of an option.
-fn read_value(
-    options: Options,
-    valued: Valued,
-    place: usize,
-    value: &[u8],
-) -> Result<Reading, OptionFault>
-    ensures { result ≡ by_value options valued place value.now }
-{
-    match with_value(options, valued, place, value) {
-        Some(options) => Ok(Reading {
+    /// The value of an option.
+    fn read_value(self, valued: Valued, place: usize, value: &[u8]) -> Result<Reading, OptionFault>
+        ensures { result ≡ by_value self valued place value.now }
+    {
+        let options = self
+            .with_value(valued, place, value)
+            .ok_or(OptionFault::BadValue(place))?;
+        Ok(Reading {
             options,
             waiting: None,
-        }),
-        None => Err(OptionFault::BadValue(place)),
+        })
     }
 }
 
-/// One word more.
-fn read_next(reading: Reading, place: usize, word: &str) -> Result<Reading, OptionFault>
-    ensures { result ≡ next reading.waiting reading.options place word.now }
-{
-    match reading.waiting {
-        None => read_word(reading.options, place, word),
-        Some((valued, _)) => read_value(reading.options, valued, place, word.as_bytes()),
+impl Reading {
+    /// One word more.
+    fn next(self, place: usize, word: &str) -> Result<Reading, OptionFault>
+        ensures { result ≡ next self.waiting self.options place word.now }
+    {
+        match self.waiting {
+            None => self.options.read_word(place, word),
+            Some((valued, _)) => self.options.read_value(valued, place, word.as_bytes()),
+        }
     }
-}
 
-/// The options, if no value is due any more.
-fn finish(reading: Reading) -> Result<Options, OptionFault>
-    ensures { result ≡ finished reading.waiting reading.options }
-{
-    match reading.waiting {
-        None => Ok(reading.options),
-        Some((_, place)) => Err(OptionFault::NoValue(place)),
+    /// The options, if no value is due any more.
+    fn finish(self) -> Result<Options, OptionFault>
+        ensures { result ≡ finished self.waiting self.options }
+    {
+        match self.waiting {
+            None => Ok(self.options),
+            Some((_, place)) => Err(OptionFault::NoValue(place)),
+        }
     }
 }
 
@@ -72,13 +70,13 @@ fn read_all(words: &[String]) -> Result<Options, OptionFault>
     ensures { result ≡ options_of (bytes_of words.now) }
 {
     let mut reading = Reading {
-        options: no_options(),
+        options: Options::default(),
         waiting: None,
     };
     for (place, word) in words.iter().enumerate() {
-        reading = read_next(reading, place, word.as_str())?;
+        reading = reading.next(place, word.as_str())?;
     }
-    finish(reading)
+    reading.finish()
 }
 
 /// What the words behind a program's name ask for.

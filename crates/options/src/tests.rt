@@ -1,5 +1,5 @@
 //! Examples, worked out by hand.
-use crate::options::{OptionFault, Options, no_options};
+use crate::options::{OptionFault, Options};
 use crate::reading::read_options;
 use std::test::Fail;
 
@@ -19,7 +19,7 @@ fn asked(rt: &HostRuntime, text: &str) -> Result<Result<Options, OptionFault>, F
 
 #[test]
 fn no_word_leaves_the_defaults(rt: HostRuntime) -> Result<(), Fail> {
-    assert_eq!(rt; asked(&rt, "")?, Ok(no_options()));
+    assert_eq!(rt; asked(&rt, "")?, Ok(Options::default()));
     Ok(())
 }
 
@@ -30,7 +30,7 @@ fn words_are_told_by_their_place(rt: HostRuntime) -> Result<(), Fail> {
         image: Some(2),
         input: Some(5),
         clock: true,
-        ..no_options()
+        ..Options::default()
     };
     assert_eq!(rt;
         asked(&rt, "a.sheet --image b --clock --input --save")?,
@@ -60,7 +60,7 @@ fn the_last_mention_counts(rt: HostRuntime) -> Result<(), Fail> {
         wait: 65535,
         paper: 1_000_000,
         examine: Some((0x10, 0x1F)),
-        ..no_options()
+        ..Options::default()
     };
     assert_eq!(rt;
         asked(
@@ -76,7 +76,7 @@ fn the_last_mention_counts(rt: HostRuntime) -> Result<(), Fail> {
 fn one_address_is_both_ends(rt: HostRuntime) -> Result<(), Fail> {
     let options = Options {
         examine: Some((0xABC, 0xABC)),
-        ..no_options()
+        ..Options::default()
     };
     assert_eq!(rt; asked(&rt, "--examine ABC")?, Ok(options));
     Ok(())

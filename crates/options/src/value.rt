@@ -5,11 +5,11 @@ ghost use Rattle.options.specs.Values.{number_up_to, address_in, addresses_in};
 use fields::number::{hexadecimal, long_decimal};
 
 /// The number of one to eighteen decimal digits, if it is at most `most`.
-pub(crate) fn number_up_to(most: u64, word: &[u8]) -> Option<u64>
+pub(crate) fn number_up_to(most: u32, word: &[u8]) -> Option<u32>
     ensures value { result ≡ number_up_to most word.now }
     ensures bound { IfSome result (λ n. n ≤ most) }
 {
-    let n = long_decimal(word)?;
+    let n = u32::try_from(long_decimal(word)?).ok()?;
     if n <= most { Some(n) } else { None }
 }
 
