@@ -2,18 +2,9 @@
 use fields::Report;
 use memory::{Memory, WordMemory};
 use sheets::assembly::assemble;
+use sheets::label::BLANK;
 use sheets::{Label, LayingFault, OpenBook};
-use statements::Name;
 use std::test::Fail;
-
-const BLANK: Label = Label {
-    name: Name {
-        first: b' ',
-        second: b' ',
-        third: b' ',
-    },
-    address: 0,
-};
 
 /// The number, line and layer of the refusal of a text in zeroed memory.
 fn refusal(rt: &HostRuntime, text: &[u8]) -> Result<(u8, u16, u8), Fail> {
