@@ -2,7 +2,6 @@
 use fields::Report;
 use memory::{Memory, WordMemory};
 use sheets::assembly::assemble;
-use sheets::label::BLANK;
 use sheets::{Label, LayingFault, OpenBook};
 use std::test::Fail;
 
@@ -45,7 +44,7 @@ fn the_last_line_may_end_with_the_text(rt: HostRuntime) -> Result<(), Fail> {
 
 #[test]
 fn one_book_serves_several_texts(rt: HostRuntime) -> Result<(), Fail> {
-    let mut records = [BLANK; 2];
+    let mut records = [Label::BLANK; 2];
     let mut book = OpenBook::new(&mut records);
     assert_eq!(rt;
         book.take_names(b"ORG 10\nA, CLA\nEND\n")

@@ -7,7 +7,7 @@ ghost use Rattle.sheets.specs.Laying.{answered, memory_after};
 
 use crate::book::OpenBook;
 use crate::fault::LayingFault;
-use crate::label::{BLANK, Label};
+use crate::label::Label;
 use memory::Memory;
 use std::alloc::{AllocError, Global};
 
@@ -37,6 +37,6 @@ pub fn assemble<M: Memory>(
     ensures memory { MatchResult result (λ _. M.contents memory.new ≡ memory_after (assembling room (M.contents memory.old) text.now) (M.contents memory.old)) (λ _. M.contents memory.new ≡ M.contents memory.old) }
     ensures law { OnOk result ((cs : List Cell) → assembling room (M.contents memory.old) text.now ≡ Ok cs → Lays (M.contents memory.old) cs (M.contents memory.new)) }
 {
-    let mut records = vec![in heap; BLANK; room]?;
+    let mut records = vec![in heap; Label::BLANK; room]?;
     Ok(assemble_over(&mut records, text, memory))
 }

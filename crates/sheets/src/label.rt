@@ -12,15 +12,17 @@ pub struct Label {
     pub address: u16,
 }
 
-/// A label of blanks: what a record holds before a name is taken into it.
-pub const BLANK: Label = Label {
-    name: Name {
-        first: b' ',
-        second: b' ',
-        third: b' ',
-    },
-    address: 0,
-};
+impl Label {
+    /// A label of blanks: what a record may hold before a name is taken into it.
+    pub const BLANK: Label = Label {
+        name: Name {
+            first: b' ',
+            second: b' ',
+            third: b' ',
+        },
+        address: 0,
+    };
+}
 
 /// The first label of that name.
 fn labelled(labels: &[Label], name: Name) -> Option<&Label>
