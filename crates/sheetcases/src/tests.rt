@@ -3,17 +3,7 @@ use fields::Report;
 use memory::{Memory, WordMemory};
 use sheets::assembly::assemble;
 use sheets::{Label, LayingFault, OpenBook};
-use statements::Name;
 use std::test::Fail;
-
-const BLANK: Label = Label {
-    name: Name {
-        first: b' ',
-        second: b' ',
-        third: b' ',
-    },
-    address: 0,
-};
 
 /// The number, line and layer of the refusal of a text in zeroed memory.
 fn refusal(rt: &HostRuntime, text: &[u8]) -> Result<(u8, u16, u8), Fail> {
@@ -54,7 +44,7 @@ fn the_last_line_may_end_with_the_text(rt: HostRuntime) -> Result<(), Fail> {
 
 #[test]
 fn one_book_serves_several_texts(rt: HostRuntime) -> Result<(), Fail> {
-    let mut records = [BLANK; 2];
+    let mut records = [Label::BLANK; 2];
     let mut book = OpenBook::new(&mut records);
     assert_eq!(rt;
         book.take_names(b"ORG 10\nA, CLA\nEND\n")

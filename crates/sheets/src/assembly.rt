@@ -9,7 +9,6 @@ use crate::book::OpenBook;
 use crate::fault::LayingFault;
 use crate::label::Label;
 use memory::Memory;
-use statements::Name;
 use std::alloc::{AllocError, Global};
 
 /// Takes the names of a text into an empty book over these records, and lays the text into a memory.
@@ -38,14 +37,6 @@ pub fn assemble<M: Memory>(
     ensures memory { MatchResult result (λ _. M.contents memory.new ≡ memory_after (assembling room (M.contents memory.old) text.now) (M.contents memory.old)) (λ _. M.contents memory.new ≡ M.contents memory.old) }
     ensures law { OnOk result ((cs : List Cell) → assembling room (M.contents memory.old) text.now ≡ Ok cs → Lays (M.contents memory.old) cs (M.contents memory.new)) }
 {
-    let blank = Label {
-        name: Name {
-            first: b' ',
-            second: b' ',
-            third: b' ',
-        },
-        address: 0,
-    };
-    let mut records = vec![in heap; blank; room]?;
+    let mut records = vec![in heap; Label::BLANK; room]?;
     Ok(assemble_over(&mut records, text, memory))
 }

@@ -6,6 +6,7 @@ use crate::label::Label;
 mod closed;
 mod open;
 mod taking;
+mod word;
 
 /// A book that takes names into records of the caller.
 // A count beside a lent slice: the project asks for records that the caller gives.

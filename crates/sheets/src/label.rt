@@ -12,6 +12,18 @@ pub struct Label {
     pub address: u16,
 }
 
+impl Label {
+    /// A label of blanks: what a record may hold before a name is taken into it.
+    pub const BLANK: Label = Label {
+        name: Name {
+            first: b' ',
+            second: b' ',
+            third: b' ',
+        },
+        address: 0,
+    };
+}
+
 /// The first label of that name.
 fn labelled(labels: &[Label], name: Name) -> Option<&Label>
     ensures { option_copied result ≡ find (λ label. same_name label.name name) labels.now }

@@ -5,11 +5,9 @@ pub mod assembly;
 pub mod book;
 pub mod fault;
 pub mod label;
-mod lay;
 pub mod placed;
 mod reader;
 mod walk;
-mod word;
 
 pub use book::{ClosedBook, OpenBook};
 pub use fault::{LayingFault, SheetFault};
