@@ -23,6 +23,17 @@ impl fmt::Display for Unknown<'_> {
     }
 }
 
+impl Default for Options<'_> {
+    fn default() -> Self {
+        Options {
+            sheet: None,
+            start: 0,
+            clocks: 1000,
+            input: "",
+        }
+    }
+}
+
 impl<'a> Options<'a> {
     /// These with one option more, and the word behind it; none where it is not known.
     fn with(self, option: &str, value: &'a str) -> Option<Options<'a>> {
@@ -50,18 +61,14 @@ impl<'a> Options<'a> {
 
 /// Reads the words in pairs: an option and its value. None where help is asked for.
 pub(crate) fn read_options(words: &[String]) -> Result<Option<Options<'_>>, Unknown<'_>> {
-    let mut options = Options {
-        sheet: None,
-        start: 0,
-        clocks: 1000,
-        input: "",
-    };
+    let mut options = Options::default();
     for pair in words.chunks(2) {
         match pair {
-            [option, value] => match options.with(option.as_str(), value.as_str()) {
-                Some(more) => options = more,
-                None => return Err(Unknown(option.as_str())),
-            },
+            [option, value] => {
+                options = options
+                    .with(option.as_str(), value.as_str())
+                    .ok_or(Unknown(option.as_str()))?;
+            }
             [option] if option.as_str() != "--help" => return Err(Unknown(option.as_str())),
             _ => return Ok(None),
         }

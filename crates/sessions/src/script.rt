@@ -35,10 +35,8 @@ pub(crate) fn read_script<'a>(
 ) -> Result<Vec<Cue>, Trouble<'a>> {
     let mut cues = Vec::new(rt.alloc());
     for (line, number) in Lines::new(text).zip(1..u64::MAX) {
-        match record(line) {
-            Some(cue) => cues.push(cue)?,
-            None => return Err(Trouble::NoRecord(name, number)),
-        }
+        let cue = record(line).ok_or(Trouble::NoRecord(name, number))?;
+        cues.push(cue)?;
     }
     Ok(cues)
 }

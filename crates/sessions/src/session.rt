@@ -73,9 +73,7 @@ fn tell_budget(rt: &HostRuntime, limit: Limit) -> Result<(), Trouble<'static>> {
 fn save<'a>(rt: &HostRuntime, name: &'a str, memory: ImageMemory) -> Result<(), Trouble<'a>> {
     let part = format!(in rt.alloc(); "{name}.part")?;
     let bytes = memory.into_bytes();
-    if fs::write(rt, part.as_str(), bytes.as_slice()).is_err() {
-        return Err(Trouble::Unwritable(name));
-    }
+    fs::write(rt, part.as_str(), bytes.as_slice()).map_err(|_| Trouble::Unwritable(name))?;
     if fs::rename(rt, part.as_str(), name).is_err() {
         let _ = fs::remove_file(rt, part.as_str());
         return Err(Trouble::Unwritable(name));

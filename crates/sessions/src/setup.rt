@@ -38,10 +38,7 @@ impl Setup {
 
 /// The bytes of a file.
 fn read_file<'a>(rt: &HostRuntime, name: &'a str) -> Result<Vec<u8>, Trouble<'a>> {
-    match fs::read(rt, name) {
-        Ok(bytes) => Ok(bytes),
-        Err(_) => Err(Trouble::Unreadable(name)),
-    }
+    fs::read(rt, name).map_err(|_| Trouble::Unreadable(name))
 }
 
 /// The image in a file, and its first address.

@@ -4,37 +4,8 @@ use crate::rig::difference::{Bench, Difference, What};
 use crate::rig::outcome::Outcome;
 use crate::second::Register::*;
 use crate::second::{Numbers, Register, Teletype};
-use machine::{Port, Registers, Visible};
+use machine::{Registers, Visible};
 use memory::Memory;
-
-/// The registers of a port.
-fn put_port(numbers: &mut Numbers, port: Port) {
-    numbers.put(Inpr, u32::from(port.inpr));
-    numbers.put(Outr, u32::from(port.outr));
-    numbers.put(Fgi, u32::from(port.fgi));
-    numbers.put(Fgo, u32::from(port.fgo));
-}
-
-impl From<Registers> for Numbers {
-    /// The registers of the clock bench as plain numbers.
-    fn from(registers: Registers) -> Numbers {
-        let mut numbers = Numbers::default();
-        numbers.put(Ar, u32::from(registers.ar));
-        numbers.put(Pc, u32::from(registers.pc));
-        numbers.put(Dr, u32::from(registers.dr));
-        numbers.put(Ac, u32::from(registers.ac));
-        numbers.put(Ir, u32::from(registers.ir));
-        numbers.put(Tr, u32::from(registers.tr));
-        numbers.put(Sc, u32::from(registers.sc));
-        numbers.put(E, u32::from(registers.e));
-        numbers.put(I, u32::from(registers.i));
-        numbers.put(R, u32::from(registers.r));
-        numbers.put(S, u32::from(registers.s));
-        numbers.put(Ien, u32::from(registers.ien));
-        put_port(&mut numbers, registers.port);
-        numbers
-    }
-}
 
 impl From<Visible> for Numbers {
     /// The registers of the instruction bench as plain numbers.
@@ -46,7 +17,24 @@ impl From<Visible> for Numbers {
         numbers.put(R, u32::from(visible.r));
         numbers.put(S, u32::from(visible.s));
         numbers.put(Ien, u32::from(visible.ien));
-        put_port(&mut numbers, visible.port);
+        numbers.put(Inpr, u32::from(visible.port.inpr));
+        numbers.put(Outr, u32::from(visible.port.outr));
+        numbers.put(Fgi, u32::from(visible.port.fgi));
+        numbers.put(Fgo, u32::from(visible.port.fgo));
+        numbers
+    }
+}
+
+impl From<Registers> for Numbers {
+    /// The registers of the clock bench as plain numbers: those that a program sees, and the others.
+    fn from(registers: Registers) -> Numbers {
+        let mut numbers = Numbers::from(Visible::from(registers));
+        numbers.put(Ar, u32::from(registers.ar));
+        numbers.put(Dr, u32::from(registers.dr));
+        numbers.put(Ir, u32::from(registers.ir));
+        numbers.put(Tr, u32::from(registers.tr));
+        numbers.put(Sc, u32::from(registers.sc));
+        numbers.put(I, u32::from(registers.i));
         numbers
     }
 }

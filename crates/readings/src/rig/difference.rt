@@ -58,10 +58,9 @@ impl fmt::Display for Difference {
                 write!(f, "the {bench} {ours}, the second simulator {theirs}")
             }
             What::Register(register, ours, theirs) => {
-                let name = register.name();
                 write!(
                     f,
-                    "{name} is {ours:X} on the {bench}, {theirs:X} on the second simulator"
+                    "{register} is {ours:X} on the {bench}, {theirs:X} on the second simulator"
                 )
             }
             What::Word(address, ours, theirs) => {

@@ -1,4 +1,5 @@
 //! The registers by name.
+use std::fmt;
 
 /// A register.
 #[derive(Clone, Copy, Debug, PartialEq, Eq)]
@@ -64,5 +65,11 @@ impl Register {
     /// Whether a program can see it.
     pub(crate) fn is_visible(self) -> bool {
         !matches!(self, Ar | Dr | Ir | Tr | Sc | I)
+    }
+}
+
+impl fmt::Display for Register {
+    fn fmt<W: fmt::Write>(&self, f: &mut fmt::Formatter<W>) -> fmt::Result {
+        f.write_str(self.name())
     }
 }

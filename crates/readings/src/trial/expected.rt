@@ -61,9 +61,8 @@ impl fmt::Display for Expected<'_> {
     fn fmt<W: fmt::Write>(&self, f: &mut fmt::Formatter<W>) -> fmt::Result {
         match *self {
             Expected::Register(register, number) => {
-                let name = register.name();
                 let digits = (register.bits() as usize).div_ceil(4);
-                write!(f, "{name} {number:0digits$X}")
+                write!(f, "{register} {number:0digits$X}")
             }
             Expected::Word(address, word) => write!(f, "M[{address:03X}] {word:04X}"),
             Expected::Printed(text) => write!(f, "printed {text}"),

@@ -42,14 +42,20 @@ impl<'a> Settings<'a> {
     }
 }
 
+impl Default for Settings<'_> {
+    fn default() -> Self {
+        Settings {
+            from: None,
+            cycles: 100_000,
+            input: "",
+            wait: 0,
+        }
+    }
+}
+
 /// The settings of a sheet, or the first of its remarks that is not understood.
 pub(crate) fn read_settings(text: &str) -> Result<Settings<'_>, &str> {
-    let mut settings = Settings {
-        from: None,
-        cycles: 100_000,
-        input: "",
-        wait: 0,
-    };
+    let mut settings = Settings::default();
     for line in text.lines() {
         if let Some((word, rest)) = remark(line) {
             settings = settings.with(word, rest).ok_or(line)?;
