@@ -23,17 +23,6 @@ impl fmt::Display for Unknown<'_> {
     }
 }
 
-impl Default for Options<'_> {
-    fn default() -> Self {
-        Options {
-            sheet: None,
-            start: 0,
-            clocks: 1000,
-            input: "",
-        }
-    }
-}
-
 impl<'a> Options<'a> {
     /// These with one option more, and the word behind it; none where it is not known.
     fn with(self, option: &str, value: &'a str) -> Option<Options<'a>> {
@@ -61,7 +50,13 @@ impl<'a> Options<'a> {
 
 /// Reads the words in pairs: an option and its value. None where help is asked for.
 pub(crate) fn read_options(words: &[String]) -> Result<Option<Options<'_>>, Unknown<'_>> {
-    let mut options = Options::default();
+    // written out: with a `Default` of a type that borrows the proof did not close
+    let mut options = Options {
+        sheet: None,
+        start: 0,
+        clocks: 1000,
+        input: "",
+    };
     for pair in words.chunks(2) {
         match pair {
             [option, value] => {

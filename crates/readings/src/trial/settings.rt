@@ -42,20 +42,15 @@ impl<'a> Settings<'a> {
     }
 }
 
-impl Default for Settings<'_> {
-    fn default() -> Self {
-        Settings {
-            from: None,
-            cycles: 100_000,
-            input: "",
-            wait: 0,
-        }
-    }
-}
-
 /// The settings of a sheet, or the first of its remarks that is not understood.
 pub(crate) fn read_settings(text: &str) -> Result<Settings<'_>, &str> {
-    let mut settings = Settings::default();
+    // written out: with a `Default` of a type that borrows the proof did not close
+    let mut settings = Settings {
+        from: None,
+        cycles: 100_000,
+        input: "",
+        wait: 0,
+    };
     for line in text.lines() {
         if let Some((word, rest)) = remark(line) {
             settings = settings.with(word, rest).ok_or(line)?;
