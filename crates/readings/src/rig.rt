@@ -29,10 +29,12 @@ pub(crate) struct Rig {
 
 /// The words as bytes, the high byte first.
 fn image(heap: Global, words: &[u16]) -> Result<Vec<u8>, AllocError> {
-    words
-        .iter()
-        .flat_map(|word| word.to_be_bytes())
-        .collect(heap)
+    // a `for`: collected from a chain the bytes took four times as long
+    let mut bytes = Vec::new(heap);
+    for word in words {
+        bytes.extend_from_slice(&word.to_be_bytes())?;
+    }
+    Ok(bytes)
 }
 
 /// A script line with these cues and a blank paper.

@@ -5,6 +5,7 @@
 //! instructions.
 mod clocks;
 mod cycles;
+mod key;
 mod marks;
 mod merge;
 pub(crate) mod numbers;
@@ -14,10 +15,11 @@ mod register;
 mod teletype;
 mod transfers;
 
+pub(crate) use key::Key;
 pub(crate) use numbers::Numbers;
 pub(crate) use refusal::Refusal;
 pub(crate) use register::Register;
-pub(crate) use teletype::{Key, Teletype};
+pub(crate) use teletype::Teletype;
 
 /// A whole second board: its registers, its words and its teletype.
 #[derive(Drop)]

@@ -4,7 +4,7 @@ mod settings;
 
 use crate::rig::{Difference, Refused, Rig};
 use crate::tally::Tally;
-use crate::trial::expected::{Expectation, Expected, expectations};
+use crate::trial::expected::{Expected, expectation};
 use crate::trial::settings::{Settings, read_settings};
 use line::Cue;
 use machine::Call;
@@ -43,9 +43,9 @@ fn cues(heap: Global, settings: Settings) -> Result<Vec<Cue>, AllocError> {
 }
 
 /// Tells what is expected.
-fn tell_expected(rt: &HostRuntime, expectations: &[Expectation]) -> anyhow::Result<()> {
+fn tell_expected(rt: &HostRuntime, text: &str) -> anyhow::Result<()> {
     print!(rt; "; expected")?;
-    for expectation in expectations {
+    for expectation in text.lines().filter_map(expectation) {
         if let Ok(expected) = expectation {
             print!(rt; " {expected}")?;
         }
@@ -54,10 +54,10 @@ fn tell_expected(rt: &HostRuntime, expectations: &[Expectation]) -> anyhow::Resu
 }
 
 /// Tells what is read where something is expected, and answers whether it is all the same and something at all.
-fn tell_read(rt: &HostRuntime, expectations: &[Expectation], rig: &Rig) -> anyhow::Result<bool> {
-    let mut same = !expectations.is_empty();
+fn tell_read(rt: &HostRuntime, text: &str, rig: &Rig) -> anyhow::Result<bool> {
+    let mut same = text.lines().any(|line| expectation(line).is_some());
     print!(rt; ": read")?;
-    for expectation in expectations {
+    for expectation in text.lines().filter_map(expectation) {
         match expectation {
             Ok(expected) => same &= expected.show_read(rt, rig)?,
             Err(rest) => {
@@ -70,18 +70,21 @@ fn tell_read(rt: &HostRuntime, expectations: &[Expectation], rig: &Rig) -> anyho
 }
 
 /// Whether refusals are all that is expected, and this one last.
-fn is_expected(expectations: &[Expectation], refused: Refused) -> bool {
-    let all_refused = expectations.iter().all(|expectation| matches!(
-        expectation,
-        Ok(Expected::Refused(_))
-    ));
-    all_refused && expectations.last() == Some(&Ok(Expected::Refused(refused)))
+fn is_expected(text: &str, refused: Refused) -> bool {
+    let mut same = false;
+    for expectation in text.lines().filter_map(expectation) {
+        let Ok(Expected::Refused(expected)) = expectation else {
+            return false;
+        };
+        same = expected == refused;
+    }
+    same
 }
 
 /// Runs words that were laid, and tells what was read.
 fn tell_run(
     rt: &HostRuntime,
-    expectations: &[Expectation],
+    text: &str,
     words: Vec<u16>,
     from: u16,
     settings: Settings,
@@ -89,7 +92,7 @@ fn tell_run(
     let cues = cues(rt.alloc(), settings)?;
     let mut rig = Rig::new(rt.alloc(), words.as_slice(), cues.as_slice(), PAPER)?;
     let ran = run(&mut rig, from, settings.cycles);
-    let same = tell_read(rt, expectations, &rig)?;
+    let same = tell_read(rt, text, &rig)?;
     match ran {
         Ok(()) => Ok(same),
         Err(difference) => {
@@ -115,26 +118,19 @@ pub(crate) fn try_sheet(
             return Ok(());
         }
     };
-    let expectations = expectations(rt.alloc(), text)?;
     let mut memory = WordMemory::new(vec![in rt.alloc(); 0; 4096]?);
     let same = match assemble(rt.alloc(), 512, text.as_bytes(), &mut memory)? {
         Err(fault) => {
             let refused = Refused::from(fault);
             print!(rt; ": read {refused}")?;
-            is_expected(expectations.as_slice(), refused)
+            is_expected(text, refused)
         }
         Ok((_, lowest, _)) => {
             let from = settings.from.unwrap_or(lowest);
-            tell_run(
-                rt,
-                expectations.as_slice(),
-                memory.into_words(),
-                from,
-                settings,
-            )?
+            tell_run(rt, text, memory.into_words(), from, settings)?
         }
     };
-    tell_expected(rt, expectations.as_slice())?;
+    tell_expected(rt, text)?;
     tally.end_row(rt, same)?;
     Ok(())
 }

@@ -4,7 +4,6 @@ use crate::second::Register;
 use crate::trial::settings::remark;
 use fields::number::hexadecimal;
 use memory::Memory;
-use std::alloc::{AllocError, Global};
 use std::fmt;
 
 /// One thing that is expected.
@@ -48,13 +47,12 @@ fn read_expected(rest: &str) -> Option<Expected<'_>> {
     }
 }
 
-/// What a sheet's comments expect, in their order.
-pub(crate) fn expectations(heap: Global, text: &str) -> Result<Vec<Expectation<'_>>, AllocError> {
-    text.lines()
-        .filter_map(remark)
-        .filter(|(word, _)| *word == "expect")
-        .map(|(_, rest)| read_expected(rest).ok_or(rest))
-        .collect(heap)
+/// What a line of a sheet expects, if it is a comment that does.
+pub(crate) fn expectation(line: &str) -> Option<Expectation<'_>> {
+    match remark(line)? {
+        ("expect", rest) => Some(read_expected(rest).ok_or(rest)),
+        _ => None,
+    }
 }
 
 impl fmt::Display for Expected<'_> {
