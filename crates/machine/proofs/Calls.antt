@@ -19,19 +19,19 @@ call-cases x b P refused grants = by (turned_down x (size b.contents) b.register
     by (Some refusal) g = refused refusal
 
 -- what is known once a call is granted
-clock-granted-when : (words : ℕ) (s : Bool) → turned_down Clock words s ≡ None → (words ≡ 4096) × (s ≡ true)
+pub clock-granted-when : (words : ℕ) (s : Bool) → turned_down Clock words s ≡ None → (words ≡ 4096) × (s ≡ true)
 clock-granted-when words s e = grind (arith, nat_tests)
 
 pub clock-is-granted : (words : ℕ) (s : Bool) → words ≡ 4096 → s ≡ true → turned_down Clock words s ≡ None
 clock-is-granted words s p q = ap₂ (turned_down Clock) p q
 
-start-granted-when : (words : ℕ) (s : Bool) → turned_down Start words s ≡ None → s ≡ false
+pub start-granted-when : (words : ℕ) (s : Bool) → turned_down Start words s ≡ None → s ≡ false
 start-granted-when words s e = grind (arith, nat_tests)
 
-aim-granted-when : (a words : ℕ) (s : Bool) → turned_down (Aim a) words s ≡ None → (a < 4096) × (s ≡ false)
+pub aim-granted-when : (a words : ℕ) (s : Bool) → turned_down (Aim a) words s ≡ None → (a < 4096) × (s ≡ false)
 aim-granted-when a words s e = grind (arith, nat_tests)
 
-deposit-granted-when : (a w words : ℕ) (s : Bool) → turned_down (Deposit a w) words s ≡ None → s ≡ false
+pub deposit-granted-when : (a w words : ℕ) (s : Bool) → turned_down (Deposit a w) words s ≡ None → s ≡ false
 deposit-granted-when a w words s e = grind (arith, nat_tests)
 
 -- What holds of any call, by what it was to the cycles and the board it left: nothing changed, a clock was granted with S up, or

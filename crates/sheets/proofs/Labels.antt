@@ -7,11 +7,11 @@ use lib.Seq.{set_split}
 use Rattle.sheets.specs.declared.label.Label.{Label}
 use Rattle.sheets.specs.Labels.{lookup, over, same_name}
 
-length-held : (n : ℕ) (records : List Label) → n ≤ length records → length (take n records) ≡ n
+pub length-held : (n : ℕ) (records : List Label) → n ≤ length records → length (take n records) ≡ n
 length-held n records h = simp length-take (omega arith)
 
 -- one label more
-length_more : (n : ℕ) (records : List Label) (l : Label) → n ≤ length records → length (take n records ++ l ∷ []) ≡ suc n
+pub length_more : (n : ℕ) (records : List Label) (l : Label) → n ≤ length records → length (take n records ++ l ∷ []) ≡ suc n
 length_more n records l h = simp length-append (omega (arith, length-held n records h))
 
 pub over-more : (n : ℕ) (records : List Label) (l : Label) → n < length records → over (take n records ++ l ∷ []) records ≡ set records n l

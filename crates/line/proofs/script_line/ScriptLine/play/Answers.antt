@@ -1,23 +1,9 @@
-use Rattle.std.proofs.Common.{◌≡◌, List, [], ◌∷◌, ◌++◌, refl, ap, arith}
+use Rattle.std.proofs.Common.{[], arith}
 use Rattle.line.proofs.Laws.{played-in-order, played-on-paper}
+use Rattle.line.proofs.Script.{replies-more, after_more}
 use Rattle.line.proofs.script_line.ScriptLine.play.Goals as goal
-use Rattle.line.specs.declared.status.Reply.{Reply}
-use Rattle.line.specs.declared.status.Status.{Status}
-use Rattle.line.specs.Script.{Script, script_reply, script_after, script_replies, script_after_all}
 use Rattle.std.proofs.lemmas.List.{take_all}
 use Rattle.std.proofs.lemmas.Grind.{common_steps}
-
--- One more beat at the end of a list.
-replies-more : (script : Script) (statuses : List Status) (status : Status) →
-    script_replies script (statuses ++ status ∷ []) ≡ script_replies script statuses ++ script_reply (script_after_all script statuses) status ∷ []
-replies-more script [] status = refl
-replies-more script (first ∷ statuses) status =
-    ap {B = List Reply} (λ replies. script_reply script first ∷ replies) (replies-more (script_after script first) statuses status)
-
-after_more : (script : Script) (statuses : List Status) (status : Status) →
-    script_after_all script (statuses ++ status ∷ []) ≡ script_after (script_after_all script statuses) status
-after_more script [] status = refl
-after_more script (first ∷ statuses) status = after_more (script_after script first) statuses status
 
 pub loop-status-preserved : goal.loop-status-preserved
 loop-status-preserved c = grind (arith, common_steps, replies-more, after_more, c.beat.ensures.rule [])
