@@ -29,7 +29,7 @@ pub(crate) struct Rig {
 
 /// The words as bytes, the high byte first.
 fn image(heap: Global, words: &[u16]) -> Result<Vec<u8>, AllocError> {
-    // a `for`: collected from a chain the bytes took four times as long
+    // a `for`: collected from a chain the bytes take some six times as long
     let mut bytes = Vec::new(heap);
     for word in words {
         bytes.extend_from_slice(&word.to_be_bytes())?;
